@@ -1,0 +1,14 @@
+pub mod formers
+pub mod Bounds
+pub mod Causes
+pub mod Changed
+pub mod Conditions
+pub mod Counted
+pub mod Keys
+pub mod Latest
+pub mod Lines
+pub mod Order
+pub mod Print
+pub mod Query
+pub mod Rows
+pub mod Values

@@ -1,0 +1,31 @@
+//! The types that the crates of the transform service share.
+#![tactic(auto)]
+
+mod config;
+mod copy;
+mod doc;
+mod entry;
+mod list;
+mod outside;
+mod printing;
+mod query;
+mod steps;
+mod task;
+mod text;
+mod tree;
+mod value;
+
+pub use config::{Agg, AggKind, Config, Group, GroupKind, Retention, Shape, SyncTime};
+pub use copy::{TryCopy, copy_config, copy_key, copy_mapping, copy_query, copy_row, copy_tree};
+pub use doc::Doc;
+pub use entry::{Entry, Kind, Row, SumRange};
+pub use list::List;
+pub use outside::Failed;
+pub use printing::print;
+pub use query::{FieldType, Mapping, Query};
+pub use std::alloc::AllocError as OutOfMemory;
+pub use steps::Steps;
+pub use task::State;
+pub use text::Text;
+pub use tree::Tree;
+pub use value::{Key, Value};
