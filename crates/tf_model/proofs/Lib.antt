@@ -6,3 +6,4 @@ pub mod QueryLaws
 pub mod RangeLaws
 pub mod RowLaws
 pub mod WindowLaws
+mod Examples

@@ -10,5 +10,7 @@ pub mod Lines
 pub mod Order
 pub mod Print
 pub mod Query
+pub mod Retention
 pub mod Rows
+pub mod Scratch
 pub mod Values

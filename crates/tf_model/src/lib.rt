@@ -5,6 +5,7 @@ mod config;
 mod copy;
 mod doc;
 mod entry;
+mod laws;
 mod list;
 mod outside;
 mod printing;
@@ -19,6 +20,7 @@ pub use config::{Agg, AggKind, Config, Group, GroupKind, Retention, Shape, SyncT
 pub use copy::{TryCopy, copy_config, copy_key, copy_mapping, copy_query, copy_row, copy_tree};
 pub use doc::Doc;
 pub use entry::{Entry, Kind, Row, SumRange};
+pub use laws::{key_order_is_exact, value_order_is_exact};
 pub use list::List;
 pub use outside::Failed;
 pub use printing::print;
