@@ -1,4 +1,4 @@
--- Worked groupings, by computation.
+-- Worked groupings and names, by computation.
 use Rattle.std.proofs.Common.{◌≡◌, ℕ, ℤ, Bool, true, false, List, [], ◌∷◌, Option, Some, None, refl}
 use Rattle.std.specs.Prelude.{pos, negsuc, codes}
 use Rattle.tf_model.specs.declared.doc.Doc.{Doc}
@@ -15,6 +15,7 @@ use Rattle.tf_model.specs.declared.config.AggKind.TheVariants.{Sum, Max, ValueCo
 use Rattle.tf_model.specs.declared.entry.Row.{Row}
 use Rattle.tf_model.specs.declared.entry.Row.TheVariants as row
 use Rattle.tf_model.specs.Order.{key_cmp, value_cmp}
+use Rattle.tf_model.specs.Names.{is_transform_id, is_index_name, is_field_path}
 use Rattle.tf_model.specs.Values.{value_of}
 use Rattle.tf_model.specs.Counted.{counts, counted}
 use Rattle.tf_model.specs.Keys.{floor_to, key_of, keys_of, has_key, all_keys}
@@ -140,3 +141,17 @@ rows_below_the_cutoff_are_left_out : scratch (0 ∷ []) by_name_with_age (Some (
     ≡ row.Pivot (record { parts = value.Int (pos 2) ∷ [] }) (value.Date (pos 2000) ∷ []) ∷ []
 unfolding scratch grouping counted counts row_of pivot_row with_key has_key all_keys keys_of key_of floor_to value_of key_cmp value_cmp stays retained
 rows_below_the_cutoff_are_left_out = simp meets_all refl
+
+-- names
+
+ids_are_told : (is_transform_id (codes "a-1_b") ≡ true) × (is_transform_id (codes "a-") ≡ false) × (is_transform_id (codes "A") ≡ false) × (is_transform_id [] ≡ false)
+unfolding is_transform_id
+ids_are_told = (refl, refl, refl, refl)
+
+index_names_are_told : (is_index_name (codes "a.b-c_d+") ≡ true) × (is_index_name (codes "_a") ≡ false) × (is_index_name (codes "a b") ≡ false) × (is_index_name (codes "aB") ≡ false) × (is_index_name (codes "..") ≡ false)
+unfolding is_index_name
+index_names_are_told = (refl, refl, refl, refl, refl)
+
+paths_are_told : (is_field_path (codes "a.b") ≡ true) × (is_field_path (codes "a..b") ≡ false) × (is_field_path (codes ".a") ≡ false) × (is_field_path (codes "a.") ≡ false) × (is_field_path [] ≡ false)
+unfolding is_field_path
+paths_are_told = (refl, refl, refl, refl, refl)

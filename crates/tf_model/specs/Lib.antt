@@ -7,10 +7,12 @@ pub mod Counted
 pub mod Keys
 pub mod Latest
 pub mod Lines
+pub mod Names
 pub mod Order
 pub mod Print
 pub mod Query
 pub mod Retention
 pub mod Rows
 pub mod Scratch
+pub mod Trees
 pub mod Values
