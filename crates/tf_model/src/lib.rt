@@ -25,7 +25,7 @@ pub use laws::{key_order_is_exact, value_order_is_exact};
 pub use list::List;
 pub use names::{is_field_path, is_index_name, is_transform_id};
 pub use outside::Failed;
-pub use printing::print;
+pub use printing::{print, print_onto};
 pub use query::{FieldType, Mapping, Query};
 pub use std::alloc::AllocError as OutOfMemory;
 pub use steps::Steps;
