@@ -1,6 +1,6 @@
 use Rattle.std.proofs.Common.{◌≡◌, ◌<◌, ◌++◌, ◌∷◌, [], List, ℕ, length, get_or, eqb, true, false, sym, subst, ap, ◌∙◌, arith, eq-eqb, rules}
 use Rattle.std.proofs.lemmas.Bool.{ne_eqb}
-use Rattle.tf_io.proofs.Cut.{IsCutTo, IsCut, cut_at_newline, cut_past_byte, cut_last, cut_none}
+use Rattle.tf_io.proofs.Cut.{IsCut, cut_at_newline, cut_past_byte, cut_last, cut_none}
 use Rattle.tf_io.proofs.lines.cut.Goals.{then-byte-eq10+in_ok-push, else-byte-eq10, then-start-size+in_ok-push-2, else-start-size}
 use Rattle.tf_io.proofs.lines.cut.Goals as goal
 
