@@ -1,0 +1,4 @@
+pub mod Disk
+pub mod InMemory
+pub mod MemoryLaws
+pub mod RealFile
