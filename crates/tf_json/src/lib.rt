@@ -3,7 +3,7 @@
 
 mod read;
 
-pub use read::{JsonError, line_is_read, read_tree};
+pub use read::{JsonError, line_is_read, read_object, read_tree};
 
 #[cfg(test)]
 mod tests;

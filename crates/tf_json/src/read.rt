@@ -1,11 +1,15 @@
-ghost use Rattle.std.specs.Prelude.{◌≡◌, ◌++◌, ◌∷◌, map, IfOk, IsUtf8, string_bytes};
+ghost use Rattle.std.specs.Prelude.{◌≡◌, ◌≤◌, ◌++◌, ◌∷◌, map, Some, IfOk, IfErr, IsSome, IsUtf8, is_some, string_bytes};
+ghost use Rattle.serde_json.specs.Data.{depth};
+ghost use Rattle.serde_json.specs.Find.{as_object};
 ghost use Rattle.serde_json.specs.View.{view, number_view, items_view, members_view, items_of};
 ghost use Rattle.tf_model.specs.declared.tree.Tree.{Tree};
-ghost use Rattle.tf_json.specs.Reading.{Reads, in_part, tree_of, tree_of_number, trees_of, members_of, reading, tree as read_as};
+ghost use Rattle.tf_json.specs.Reading.{Reads, in_part, tree_of, tree_of_number, trees_of, members_of, reading, reading_of, value_of, tree as read_as};
+ghost use Rattle.tf_json.specs.Objects.{object_reading};
 ghost use Rattle.tf_json.specs.Stored.{IsStored, AreStored, MembersAreStored, data_of, data_member, named};
 ghost use Rattle.tf_model.specs.Lines.{IsLine};
+ghost use Rattle.tf_model.specs.Trees.{members_in};
 ghost use Rattle.tf_model.specs.Print.{printed};
-ghost use Rattle.tf_json.specs.Answers.{Answers, Blames, Gives};
+ghost use Rattle.tf_json.specs.Answers.{Answers, IsNoValue, Blames, Gives};
 
 use serde_json::{Map, Number, Value};
 use std::alloc::{AllocError, AllocFailed, Global};
@@ -72,15 +76,56 @@ pub fn read_tree(alloc: Global, line: &[u8]) -> Result<Tree, JsonError>
     // The tree is one that a line can be, so that its text is read as the same tree.
     ensures line { IfOk result IsLine }
 {
-    let value = match Value::from_slice(alloc, line) {
-        Ok(value) => value,
+    match parse(alloc, line) {
+        Ok(value) => tree_of_value(alloc, value),
+        Err(error) => Err(error),
+    }
+}
+
+/// The object that a line is, as `read_tree` gives it. A line that is JSON and no object is `NotJson` too, whatever
+/// its numbers are.
+pub fn read_object(alloc: Global, line: &[u8]) -> Result<Tree, JsonError>
+    // A tree, `NotJson` and `Fraction` each come exactly where they are the reading of an object.
+    ensures reading { Answers (object_reading line.now) result }
+    ensures object { IfOk result (λ tree. IsSome (members_in tree)) }
+    ensures line { IfOk result IsLine }
+{
+    match parse(alloc, line) {
+        Ok(value) => {
+            if value.is_object() {
+                tree_of_value(alloc, value)
+            } else {
+                Err(JsonError::NotJson)
+            }
+        }
+        Err(error) => Err(error),
+    }
+}
+
+/// The value that `serde_json` gives of a line.
+fn parse(alloc: Global, line: &[u8]) -> Result<Value, JsonError>
+    ensures value { IfOk result (λ value. value_of line.now ≡ Some (view value)) }
+    ensures nests { IfOk result (λ value. depth (view value) ≤ 127) }
+    ensures refused { IfErr result (IsNoValue (value_of line.now)) }
+{
+    match Value::from_slice(alloc, line) {
+        Ok(value) => Ok(value),
         Err(error) => {
             if error.is_memory() {
                 return Err(JsonError::Memory);
             }
-            return Err(JsonError::NotJson);
+            Err(JsonError::NotJson)
         }
-    };
+    }
+}
+
+/// The tree of a line's value.
+fn tree_of_value(alloc: Global, value: Value) -> Result<Tree, JsonError>
+    requires { depth (view value) ≤ 127 }
+    ensures reading { Answers (reading_of (Some (view value))) result }
+    ensures object { IfOk result (λ tree. is_some (members_in tree) ≡ is_some (as_object (view value))) }
+    ensures line { IfOk result IsLine }
+{
     match tree(alloc, value) {
         Ok(tree) => Ok(tree),
         Err(Fault::Memory) => Err(JsonError::Memory),
