@@ -1,4 +1,4 @@
-use crate::{JsonError, read_tree};
+use crate::{JsonError, read_object, read_tree};
 use std::alloc::Global;
 use std::test::Fail;
 use tf_model::print;
@@ -50,5 +50,21 @@ fn nesting_ends_at_127(rt: HostRuntime) -> Result<(), Fail> {
         }
         assert_eq!(rt; read_tree(rt.alloc(), &line).is_ok(), is_tree);
     }
+    Ok(())
+}
+
+#[test]
+fn objects_alone_are_objects(rt: HostRuntime) -> Result<(), Fail> {
+    assert!(rt; read_object(rt.alloc(), b" {\"a\":[1]} ").is_ok());
+    let others: [&[u8]; 3] = [b"[1.5]", b"\"{}\"", b"{"];
+    for line in others {
+        assert!(rt; matches!(read_object(rt.alloc(), line), Err(JsonError::NotJson)));
+    }
+    assert!(rt;
+        matches!(
+            read_object(rt.alloc(), b"{\"a\":1.5}"),
+            Err(JsonError::Fraction { .. })
+        )
+    );
     Ok(())
 }

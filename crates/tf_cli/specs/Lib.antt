@@ -1,0 +1,6 @@
+pub mod Asking
+pub mod Commands
+pub mod Replies
+pub mod Script
+pub mod Top
+pub mod Words

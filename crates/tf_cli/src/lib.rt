@@ -1,0 +1,15 @@
+//! The top calls of the program: they take the words of the command line and all that is outside, and answer a status.
+#![tactic(auto)]
+
+mod asking;
+mod command;
+mod replies;
+mod script;
+mod top;
+mod words;
+
+pub use top::{End, run_top};
+pub use words::file_word;
+
+#[cfg(test)]
+mod tests;

@@ -1,0 +1,89 @@
+// The answers of the top call over a source, a sink and a disk in memory.
+use super::*;
+use std::alloc::Global;
+use std::test::Fail;
+use tf_disk::MemDisk;
+use tf_io::{MemSink, MemSource};
+
+const SCRIPT: &[u8] =
+    b"{\"op\":\"create_index\",\"index\":\"s\",\"mappings\":{\"properties\":{\"k\":{\"type\":\"keyword\"}}}}\n\t\n[]\n{\"op\":\"sea";
+
+const REPLIES: &[u8] =
+    b"{\"line\":1,\"no\":1,\"result\":\"created\"}\n{\"error\":\"bad_json\",\"line\":3,\"no\":1}\n{\"error\":\"bad_json\",\"line\":4,\"no\":1}\n";
+
+fn words(alloc: Global, all: &[&str]) -> Result<Vec<String>, Fail> {
+    let mut words = Vec::new(alloc);
+    for word in all {
+        words.push(String::from_str(alloc, word)?)?;
+    }
+    Ok(words)
+}
+
+// The end of `run j` over a script, what the sink then has, and how many calls of the disk were made.
+fn run(alloc: Global, src: &mut MemSource, out: &mut MemSink) -> Result<(End, u64), Fail> {
+    let disk = MemDisk::new(alloc, b"", &[])?;
+    let (end, disk) = run_top(alloc, &words(alloc, &["run", "j"])?, src, out, disk);
+    Ok((end, disk.calls()))
+}
+
+#[test]
+fn a_script_is_answered(rt: HostRuntime) -> Result<(), Fail> {
+    let mut src = MemSource::new(rt.alloc(), SCRIPT, &[])?;
+    let mut out = MemSink::new(rt.alloc(), &[], &[])?;
+    let (end, calls) = run(rt.alloc(), &mut src, &mut out)?;
+    assert_eq!(rt; end, End::new(0, 0));
+    assert_eq!(rt; out.bytes(), REPLIES);
+    assert_eq!(rt; calls, 0);
+    Ok(())
+}
+
+#[test]
+fn a_second_read_that_fails_is_status_3(rt: HostRuntime) -> Result<(), Fail> {
+    let mut src = MemSource::new(rt.alloc(), SCRIPT, &[2])?;
+    let mut out = MemSink::new(rt.alloc(), &[], &[])?;
+    let (end, calls) = run(rt.alloc(), &mut src, &mut out)?;
+    assert_eq!(rt; end, End::new(3, SCRIPT.len() as u64));
+    assert_eq!(rt; out.bytes().len(), 0);
+    assert_eq!(rt; calls, 0);
+    Ok(())
+}
+
+#[test]
+fn a_sink_that_takes_nothing_is_status_4(rt: HostRuntime) -> Result<(), Fail> {
+    let mut src = MemSource::new(rt.alloc(), SCRIPT, &[])?;
+    let mut out = MemSink::new(rt.alloc(), &[], &[1])?;
+    let (end, _) = run(rt.alloc(), &mut src, &mut out)?;
+    assert_eq!(rt; end, End::new(4, 0));
+    Ok(())
+}
+
+#[test]
+fn an_empty_output_calls_no_sink(rt: HostRuntime) -> Result<(), Fail> {
+    let mut src = MemSource::new(rt.alloc(), b"", &[])?;
+    let mut out = MemSink::new(rt.alloc(), &[1], &[1])?;
+    let (end, _) = run(rt.alloc(), &mut src, &mut out)?;
+    assert_eq!(rt; end, End::new(0, 0));
+    Ok(())
+}
+
+#[test]
+fn other_words_are_status_2(rt: HostRuntime) -> Result<(), Fail> {
+    let alloc = rt.alloc();
+    let rows: [&[&str]; 7] = [
+        &[],
+        &["run"],
+        &["run", ""],
+        &["run", "-x"],
+        &["run", "a", "b"],
+        &["--help"],
+        &["runs", "j"],
+    ];
+    for row in rows {
+        let mut src = MemSource::new(alloc, b"", &[1])?;
+        let mut out = MemSink::new(alloc, &[], &[])?;
+        let disk = MemDisk::new(alloc, b"", &[])?;
+        let (end, _) = run_top(alloc, &words(alloc, row)?, &mut src, &mut out, disk);
+        assert_eq!(rt; end, End::new(2, 0));
+    }
+    Ok(())
+}
