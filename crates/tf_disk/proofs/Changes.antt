@@ -2,16 +2,11 @@
 use Rattle.std.proofs.Common.{◌≡◌, ◌⊎◌, inl, inr, ℕ, ◌≤◌, List, [], ◌∷◌, ◌++◌, Bool, true, length, refl, sym, ◌∙◌, ap, subst, arith, length-append, Some, Result, Ok, Err, OnOk, is_ok}
 use Rattle.std.proofs.lemmas.List.{take-append-le, take_all}
 use Rattle.std.proofs.lemmas.Bool.{cases_lt}
-use Rattle.tf_model.specs.Causes.{Rose, HasCause}
 use Rattle.tf_disk.specs.Disk.{Torn, Cut, Kept, Follows, Writes, Cuts, Makes}
 use Rattle.tf_disk.specs.InMemory.{DiskState, changed, left, contents, images_of, IsImage, WasImage, in_memory}
 use Rattle.tf_disk.specs.MemoryLaws.{contents_is_image}
 use Rattle.tf_disk.specs.declared.change.Change.{Change}
 use Rattle.tf_disk.specs.declared.change.Change.TheVariants.{Write, Trim, Sync}
-
--- a fault that is counted later
-pub cause_later : {T E : Type 0} (before mid now : ℕ) (error : E) → before ≤ mid → mid ≤ now → Rose mid now → HasCause {T = T} before now (Err error)
-cause_later before mid now error first then rose = record { later = omega arith; failed = omega arith }
 
 pub contents-push : (changes : List Change) (now : List ℕ) (change : Change) → contents now (changes ++ change ∷ []) ≡ changed change (contents now changes)
 contents-push [] now change = refl
@@ -69,16 +64,6 @@ makes_change old new change step first changes follows = makes_at old.first old.
 -- what a read gives after it
 pub contents_after : (old new : DiskState) (change : Change) → new.first ≡ old.first → new.changes ≡ old.changes ++ change ∷ [] → contents new.first new.changes ≡ changed change (contents old.first old.changes)
 contents_after old new change first changes = (λ i. contents (first i) (changes i)) ∙ contents-push old.changes old.first change
-
--- nothing was kept of a call
-pub makes_nothing : (old new : DiskState) (step : List ℕ → List ℕ → Type 0) → ((bytes : List ℕ) → step bytes bytes) → new.first ≡ old.first → new.changes ≡ old.changes → Makes in_memory step old new
-makes_nothing old new step same first changes = record {
-  tells = refl;
-  images = λ image is. (image, subst (λ (p : List ℕ × List Change). IsImage p.0 p.1 image) (λ i. (first i, changes i)) is, same image);
-  later = omega (arith, ap length changes);
-  nothing_else = λ t image le was. inl (subst (λ (p : List ℕ × List Change). WasImage p.0 p.1 t image) (λ i. (first i, changes i)) was);
-  keeps = λ t image le was. subst (λ (p : List ℕ × List Change). WasImage p.0 p.1 t image) (sym (λ i. (first i, changes i))) was;
-}
 
 module _ (old new : DiskState) (first : new.first ≡ old.first) where
   pub writes : {T E : Type 0} (place : ℕ) (bytes : List ℕ) (result : Result T E) → new.changes ≡ old.changes ++ Write place bytes (is_ok result) ∷ []
