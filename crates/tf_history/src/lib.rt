@@ -1,0 +1,101 @@
+// The laws of checkpoints.
+#![tactic(auto)]
+
+ghost use Rattle.tf_history.specs.Histories.{EachPrefixIsGrouped, RightAfterIsRight, MovesAreLegal};
+ghost use Rattle.tf_history.specs.Agreement.{MeaningsAgree};
+ghost use Rattle.tf_history.specs.Entries.{EntriesAreGrouped, LivesAreSteady};
+ghost use Rattle.tf_history.specs.Laws.{FinishedIsScratch, RowsWhenIdle, RowsWhenRunning, FirstIsScratch, BatchIsScratch, PagesAreExact, StampedIsNeverLate, KeptRowIsEarlier, IncludedIsScratch, AlignedIsApart};
+
+/// With none running and no late document the destination is the grouping from scratch of all
+/// documents written so far below the bound, less what the cutoff takes out.
+#[tactic(auto, using(crate::proofs::CompleteLaw::finished_is_scratch))]
+pub fn finished_is_scratch()
+    ensures { FinishedIsScratch }
+{}
+
+/// Whatever is late, a key has the row of the last checkpoint in which it changed.
+#[tactic(auto, using(crate::proofs::CompleteLaw::rows_when_idle))]
+pub fn rows_when_idle()
+    ensures { RowsWhenIdle }
+{}
+
+/// In the middle of a checkpoint the changed keys at or below the position have their rows.
+pub fn rows_when_running()
+    ensures { RowsWhenRunning }
+{}
+
+/// After checkpoint 1 the destination is the grouping of the documents that it read.
+#[tactic(auto, using(crate::proofs::ReadsLaw::first_is_scratch))]
+pub fn first_is_scratch()
+    ensures { FirstIsScratch }
+{}
+
+/// A batch transform's destination is the grouping of the documents that it read.
+#[tactic(auto, using(crate::proofs::ReadsLaw::batch_is_scratch))]
+pub fn batch_is_scratch()
+    ensures { BatchIsScratch }
+{}
+
+/// The newest checkpoint, when finished, has as many Pages as its changed keys fill.
+#[tactic(auto, using(crate::proofs::PagesLaw::pages_are_exact))]
+pub fn pages_are_exact()
+    ensures { PagesAreExact }
+{}
+
+/// Where every source is stamped nothing is late.
+#[tactic(auto, using(crate::proofs::StampsLaw::stamped_is_never_late))]
+pub fn stamped_is_never_late()
+    ensures { StampedIsNeverLate }
+{}
+
+/// In each prefix of a legal history with right Pages the finished transforms are grouped.
+#[tactic(auto, using(crate::proofs::HistoriesLaw::each_prefix_is_grouped))]
+pub fn each_prefix_is_grouped()
+    ensures { EachPrefixIsGrouped }
+{}
+
+/// Where nothing was late at the Begin, a kept row that is still to be replaced is the row below the bound before.
+pub fn kept_row_is_earlier()
+    ensures { KeptRowIsEarlier }
+{}
+
+/// Where late documents are included the destination is the grouping of the documents that were read last.
+pub fn included_is_scratch()
+    ensures { IncludedIsScratch }
+{}
+
+/// Where bounds are aligned to a group of the sync field no key changes in two checkpoints.
+#[tactic(auto, using(crate::proofs::AlignedLaw::aligned_is_apart))]
+pub fn aligned_is_apart()
+    ensures { AlignedIsApart }
+{}
+
+/// A history whose Pages are right up to a place and after it has right Pages.
+#[tactic(auto, using(crate::proofs::HistoriesLaw::right_after_is_right))]
+pub fn right_after_is_right()
+    ensures { RightAfterIsRight }
+{}
+
+/// What the indexer would make next is legal and right.
+pub fn moves_are_legal()
+    ensures { MovesAreLegal }
+{}
+
+/// A configured transform's rows keep their retention values among more documents.
+#[tactic(auto, using(crate::proofs::EntriesLaw::lives_are_steady))]
+pub fn lives_are_steady()
+    ensures { LivesAreSteady }
+{}
+
+/// Wherever a legal history of entries with right Pages has a finished transform, its rows are the
+/// grouping from scratch.
+pub fn entries_are_grouped()
+    ensures { EntriesAreGrouped }
+{}
+
+/// The words of a meaning that is made from a configuration are those of the configuration itself: what counts, keys,
+/// rows, the grouping from scratch, bounds, cutoffs, windows, changed keys and what is due.
+#[tactic(auto, using(crate::proofs::MeaningLaw::meanings_agree))]
+pub fn meanings_agree()
+    ensures { MeaningsAgree }
+{}
