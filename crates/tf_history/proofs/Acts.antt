@@ -1,37 +1,24 @@
 use Rattle.tf_history.specs.Lives.Turn.{Starts, Asks, Stops, Prompts, Fails}
 -- What legality says of an entry as an act on one transform.
-use Rattle.std.proofs.Common.{◌≡◌, ℕ, ℤ, Bool, true, false, cond, not, ◌&&◌, ◌||◌, ◌+◌, List, [], ◌∷◌, ◌++◌, Option, refl, sym, ap, subst, Some, None}
-use Rattle.std.specs.Prelude.{⊤, IsSomeAnd}
+use Rattle.std.proofs.Common.{◌≡◌, ℕ, ℤ, Bool, true, false, cond, not, ◌&&◌, ◌||◌, List, [], ◌∷◌, ◌++◌, Option, refl, sym, ap, subst, Some, None}
+use Rattle.std.specs.Prelude.{IsSomeAnd}
 use Rattle.tf_history.specs.Events.Deed.{Index, Write, Put, Delete, Reset, Start, StopAsked, Stopped, Schedule, Fail, Begin, Page, Finish}
-use Rattle.tf_history.specs.Lives.{Checkpoint, Life, Act, act, life, writes, documents, is_same, next_bound, last_bound}
+use Rattle.tf_history.specs.Lives.{Checkpoint, Life, Act, act, life, writes, documents, is_same}
 use Rattle.tf_history.specs.Lives.Act.{Aside, Opens, Reopens, Closes, Writes, Begins, Pages, Finishes, Turns}
-use Rattle.tf_history.specs.Legality.{MayBegin, MayPage, MayFinish, IsAllowed, IsIdle, is_empty}
+use Rattle.tf_history.specs.Acts.{IsNextBegin, MayAct}
+use Rattle.tf_history.specs.Legality.{MayBegin, MayPage, MayFinish, IsAllowed, is_empty}
 use Rattle.tf_history.proofs.Ids.{same_id}
 use Rattle.tf_history.specs.Events.{Deed, Event}
 use Rattle.tf_model.specs.declared.doc.Doc.{Doc}
-
--- what the laws use of a legal Begin
-pub record Begun (l : Life) (n : ℕ) (bound : Option ℤ) (moment : ℤ) : Type 0 where
-  pub idle : IsIdle l
-  pub number : n ≡ l.finished + 1
-  pub bound_is : bound ≡ next_bound l.meaning (last_bound l.checkpoints) moment
-  pub once : l.meaning.is_batch ≡ true → l.checkpoints ≡ []
 
 due_once : (batch : Bool) (checkpoints : List Checkpoint) (rest : Bool) → (is_empty checkpoints || (not batch && rest)) ≡ true → batch ≡ true → checkpoints ≡ []
 due_once batch [] rest e b = refl
 due_once true (c ∷ checkpoints) rest e b = absurd (let z : false ≡ true = e in cc)
 due_once false (c ∷ checkpoints) rest e b = absurd (let z : false ≡ true = b in cc)
 
-pub some_begin : (o : Option Life) (n : ℕ) (bound : Option ℤ) (moment : ℤ) (docs : List Doc) → IsSomeAnd o (λ l. MayBegin l docs n bound moment) → IsSomeAnd o (λ l. Begun l n bound moment)
+pub some_begin : (o : Option Life) (n : ℕ) (bound : Option ℤ) (moment : ℤ) (docs : List Doc) → IsSomeAnd o (λ l. MayBegin l docs n bound moment) → IsSomeAnd o (λ l. IsNextBegin l n bound moment)
 some_begin None n bound moment docs h = h
 some_begin (Some l) n bound moment docs h = record { idle = h.idle; number = h.number; bound_is = h.bound_is; once = due_once l.meaning.is_batch l.checkpoints _ h.due }
-
--- what legality says of an act on one transform
-abbrev pub MayAct : Act → Option Life → Type 0
-MayAct (Begins n bound moment) o = IsSomeAnd o (λ l. Begun l n bound moment)
-MayAct (Pages n rows) o = IsSomeAnd o (λ l. MayPage l n rows)
-MayAct (Finishes n) o = IsSomeAnd o (λ l. MayFinish l n)
-MayAct _ o = ⊤
 
 chosen : (a : Act) (o : Option Life) (b : Bool) → (b ≡ true → MayAct a o) → MayAct (cond b a Aside) o
 chosen a o true h = h refl
@@ -48,7 +35,7 @@ may t moment (StopAsked id wait) past h = chosen (Turns (Asks wait)) (life t pas
 may t moment (Stopped id) past h = chosen (Turns Stops) (life t past) (is_same t id) (λ e. tt)
 may t moment (Schedule id) past h = chosen (Turns Prompts) (life t past) (is_same t id) (λ e. tt)
 may t moment (Fail id n k name value) past h = chosen (Turns (Fails k name value)) (life t past) (is_same t id) (λ e. tt)
-may t moment (Begin id n bound) past h = chosen (Begins n bound moment) (life t past) (is_same t id) (λ e. subst (λ x. IsSomeAnd (life x past) (λ l. Begun l n bound moment)) (sym (same_id t id e)) (some_begin (life id past) n bound moment (documents past) h))
+may t moment (Begin id n bound) past h = chosen (Begins n bound moment) (life t past) (is_same t id) (λ e. subst (λ x. IsSomeAnd (life x past) (λ l. IsNextBegin l n bound moment)) (sym (same_id t id e)) (some_begin (life id past) n bound moment (documents past) h))
 may t moment (Page id n rows) past h = chosen (Pages n rows) (life t past) (is_same t id) (λ e. subst (λ x. IsSomeAnd (life x past) (λ l. MayPage l n rows)) (sym (same_id t id e)) h)
 may t moment (Finish id n) past h = chosen (Finishes n) (life t past) (is_same t id) (λ e. subst (λ x. IsSomeAnd (life x past) (λ l. MayFinish l n)) (sym (same_id t id e)) h)
 

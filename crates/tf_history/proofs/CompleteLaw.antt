@@ -18,7 +18,7 @@ use Rattle.tf_history.proofs.Rows.{keys_in, row_at_keep, ascending_keep, ascendi
 use Rattle.tf_history.proofs.Counting.{keyed, row_if_any-same, same_between, below_risen, from_neither}
 use Rattle.tf_history.specs.Laws.{IsSound, FinishedIsScratch, RowsWhenIdle, RowsWhenRunning}
 use Rattle.tf_history.proofs.Acts.{may_act, act_writes, documents_act}
-use Rattle.tf_history.proofs.Acts.{MayAct}
+use Rattle.tf_history.specs.Acts.{MayAct}
 use Rattle.tf_history.proofs.RowsLaw.{RowsHold, LifeRowsHold, rows_hold}
 use Rattle.tf_history.specs.Events.{Event}
 use Rattle.tf_history.specs.Meaning.{Meaning}

@@ -6,8 +6,8 @@ use Rattle.tf_history.specs.Events.Deed.{Index, Write, Put, Delete, Reset, Start
 use Rattle.tf_history.specs.Lives.{Life, Act, act, life, life_after, lived, fresh, documents, writes, Turn, is_same}
 use Rattle.tf_history.specs.Lives.Act.{Aside, Opens, Reopens, Closes, Writes, Begins, Pages, Finishes, Turns}
 use Rattle.tf_history.specs.Legality.{MayFinish, IsRight, IsLegal, PagesRight, RightAct, MayPage}
-use Rattle.tf_history.proofs.Acts.{may_act, some_begin, Begun}
-use Rattle.tf_history.proofs.Acts.{MayAct}
+use Rattle.tf_history.proofs.Acts.{may_act, some_begin}
+use Rattle.tf_history.specs.Acts.{IsNextBegin, MayAct}
 use Rattle.tf_history.proofs.Ids.{same_id}
 use Rattle.tf_history.specs.Events.{Deed, Event}
 use Rattle.tf_history.specs.Meaning.{Meaning}
@@ -23,7 +23,7 @@ pub record IsKept (R : Life → List Row → Type 0) (I : List Event → Life �
   pub aside : (past : List Event) (moment : ℤ) (deed : Deed) (l : Life) → IsLegal (event moment deed ∷ past) → writes deed ≡ [] → I past l → I (event moment deed ∷ past) l
   pub turned : (past : List Event) (moment : ℤ) (deed : Deed) (turn : Turn) (l : Life) → IsLegal (event moment deed ∷ past) → writes deed ≡ [] → I past l → I (event moment deed ∷ past) (lived (documents past) (Turns turn) l)
   pub wrote : (past : List Event) (moment : ℤ) (d : Doc) (l : Life) → IsLegal (event moment (Write d) ∷ past) → I past l → I (event moment (Write d) ∷ past) (lived (documents past) (Writes d) l)
-  pub begun : (past : List Event) (moment : ℤ) (id : List ℕ) (n : ℕ) (bound : Option ℤ) (l : Life) → IsLegal (event moment (Begin id n bound) ∷ past) → Begun l n bound moment → I past l → I (event moment (Begin id n bound) ∷ past) (lived (documents past) (Begins n bound moment) l)
+  pub begun : (past : List Event) (moment : ℤ) (id : List ℕ) (n : ℕ) (bound : Option ℤ) (l : Life) → IsLegal (event moment (Begin id n bound) ∷ past) → IsNextBegin l n bound moment → I past l → I (event moment (Begin id n bound) ∷ past) (lived (documents past) (Begins n bound moment) l)
   pub paged : (past : List Event) (moment : ℤ) (id : List ℕ) (n : ℕ) (rows : List Row) (l : Life) → IsLegal (event moment (Page id n rows) ∷ past) → MayPage l n rows → R l rows → I past l → I (event moment (Page id n rows) ∷ past) (lived (documents past) (Pages n rows) l)
   pub done : (past : List Event) (moment : ℤ) (id : List ℕ) (n : ℕ) (l : Life) → IsLegal (event moment (Finish id n) ∷ past) → MayFinish l n → I past l → I (event moment (Finish id n) ∷ past) (lived (documents past) (Finishes n) l)
 
@@ -62,7 +62,7 @@ module _ (R : Life → List Row → Type 0) (I : List Event → Life → Type 0)
   wrote_any past moment d None legal h = tt
   wrote_any past moment d (Some l) legal h = keeps.wrote past moment d l legal h
 
-  begun_any : (past : List Event) (moment : ℤ) (id : List ℕ) (n : ℕ) (bound : Option ℤ) (o : Option Life) → IsLegal (event moment (Begin id n bound) ∷ past) → IsSomeAnd o (λ l. Begun l n bound moment) → IfSome o (I past) → IfSome (life_after (documents past) (Begins n bound moment) o) (I (event moment (Begin id n bound) ∷ past))
+  begun_any : (past : List Event) (moment : ℤ) (id : List ℕ) (n : ℕ) (bound : Option ℤ) (o : Option Life) → IsLegal (event moment (Begin id n bound) ∷ past) → IsSomeAnd o (λ l. IsNextBegin l n bound moment) → IfSome o (I past) → IfSome (life_after (documents past) (Begins n bound moment) o) (I (event moment (Begin id n bound) ∷ past))
   begun_any past moment id n bound None legal m h = tt
   begun_any past moment id n bound (Some l) legal m h = keeps.begun past moment id n bound l legal m h
 
@@ -85,7 +85,7 @@ module _ (R : Life → List Row → Type 0) (I : List Event → Life → Type 0)
   step t moment (Stopped id) past P legal known h = named past moment (Stopped id) (Turns Stops) (life t past) (is_same t id) P legal refl h (λ e k. turned_any past moment (Stopped id) Stops (life t past) legal refl (h k)) known
   step t moment (Schedule id) past P legal known h = named past moment (Schedule id) (Turns Prompts) (life t past) (is_same t id) P legal refl h (λ e k. turned_any past moment (Schedule id) Prompts (life t past) legal refl (h k)) known
   step t moment (Fail id n k name value) past P legal known h = named past moment (Fail id n k name value) (Turns (Fails k name value)) (life t past) (is_same t id) P legal refl h (λ e q. turned_any past moment (Fail id n k name value) (Fails k name value) (life t past) legal refl (h q)) known
-  step t moment (Begin id n bound) past P legal known h = named past moment (Begin id n bound) (Begins n bound moment) (life t past) (is_same t id) P legal refl h (λ e k. begun_any past moment id n bound (life t past) legal (subst (λ x. IsSomeAnd (life x past) (λ l. Begun l n bound moment)) (sym (same_id t id e)) (some_begin (life id past) n bound moment (documents past) legal.1)) (h k)) known
+  step t moment (Begin id n bound) past P legal known h = named past moment (Begin id n bound) (Begins n bound moment) (life t past) (is_same t id) P legal refl h (λ e k. begun_any past moment id n bound (life t past) legal (subst (λ x. IsSomeAnd (life x past) (λ l. IsNextBegin l n bound moment)) (sym (same_id t id e)) (some_begin (life id past) n bound moment (documents past) legal.1)) (h k)) known
   step t moment (Page id n rows) past P legal known h = named past moment (Page id n rows) (Pages n rows) (life t past) (is_same t id) P legal refl h (λ e k. paged_any past moment id n rows (life t past) legal (subst (λ x. IsSomeAnd (life x past) (λ l. MayPage l n rows)) (sym (same_id t id e)) legal.1) k.0 (h k.1)) known
   step t moment (Finish id n) past P legal known h = named past moment (Finish id n) (Finishes n) (life t past) (is_same t id) P legal refl h (λ e k. done_any past moment id n (life t past) legal (subst (λ x. IsSomeAnd (life x past) (λ l. MayFinish l n)) (sym (same_id t id e)) legal.1) (h k)) known
 

@@ -6,13 +6,13 @@ use Rattle.tf_history.specs.Meaning.{Meaning}
 use Rattle.tf_history.specs.Events.{Event}
 use Rattle.tf_history.specs.Lives.{Checkpoint, Life, life, last_bound, next_bound, is_under, is_late}
 use Rattle.tf_model.specs.Bounds.{risen}
-use Rattle.tf_history.specs.Legality.{IsLegal}
+use Rattle.tf_history.specs.Laws.{LastBoundDecides, LateAreFew}
 use Rattle.tf_history.proofs.Counting.{below_risen}
 use Rattle.tf_history.proofs.CompleteLaw.{continuous_next}
 use Rattle.tf_history.proofs.Induction.{IsKept, holds, legal_known}
 
 -- below some earlier bound
-abbrev pub is_under_some : List Checkpoint → Option ℤ → Bool
+abbrev is_under_some : List Checkpoint → Option ℤ → Bool
 is_under_some checkpoints v = list_any (λ b. is_under b.bound v) checkpoints
 
 abbrev LastDecides : List Event → Life → Type 0
@@ -52,8 +52,8 @@ decided = record {
   done = λ past moment id n l legal m h. h;
 }
 
-pub last_decides : (past : List Event) (t : List ℕ) (l : Life) → IsLegal past → life t past ≡ Some l → (v : Option ℤ) → is_under_some l.checkpoints v ≡ is_under (last_bound l.checkpoints) v
-last_decides past t l legal is = subst (λ o. IfSome o (LastDecides past)) is (holds (λ _ _. ⊤) LastDecides decided t past legal (legal_known t past legal))
+pub last_bound_decides : LastBoundDecides
+last_bound_decides past t l legal is = subst (λ o. IfSome o (LastDecides past)) is (holds (λ _ _. ⊤) LastDecides decided t past legal (legal_known t past legal))
 
 abbrev IsFew : List Event → Life → Type 0
 IsFew past l = l.late ≤ length past
@@ -73,5 +73,5 @@ few = record {
   done = λ past moment id n l legal m h. omega arith;
 }
 
-pub few_late : (past : List Event) (t : List ℕ) (l : Life) → IsLegal past → life t past ≡ Some l → l.late ≤ length past
-few_late past t l legal is = subst (λ o. IfSome o (IsFew past)) is (holds (λ _ _. ⊤) IsFew few t past legal (legal_known t past legal))
+pub late_are_few : LateAreFew
+late_are_few past t l legal is = subst (λ o. IfSome o (IsFew past)) is (holds (λ _ _. ⊤) IsFew few t past legal (legal_known t past legal))

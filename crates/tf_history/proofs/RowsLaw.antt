@@ -15,7 +15,7 @@ use Rattle.tf_history.proofs.Rows.{keys_in, row_at-put_rows, ascending-put_rows,
 use Rattle.tf_history.proofs.Counting.{keyed, keep_later, keep_same}
 use Rattle.tf_history.specs.Laws.{IsSteady}
 use Rattle.tf_history.proofs.Acts.{may_act, act_writes, documents_act}
-use Rattle.tf_history.proofs.Acts.{MayAct}
+use Rattle.tf_history.specs.Acts.{MayAct}
 use Rattle.tf_history.specs.Events.{Event}
 use Rattle.tf_history.specs.Meaning.{Meaning, row_key}
 use Rattle.tf_model.specs.declared.doc.Doc.{Doc}

@@ -1,9 +1,10 @@
 -- The laws, over the definitions alone. In each, past is a history with its newest entry first.
-use Rattle.std.specs.Prelude.{◌≡◌, ℕ, ℤ, suc, ◌+◌, ◌<◌, ◌-◌, ◌/◌, ◌≤ℤ◌, ⊤, true, false, cond, not, ◌&&◌, List, [], ◌∷◌, ◌++◌, length, Option, Some, None}
+use Rattle.std.specs.Prelude.{◌≡◌, ℕ, ℤ, suc, ◌+◌, ◌<◌, ◌-◌, ◌/◌, ◌≤ℤ◌, ⊤, true, false, cond, not, ◌&&◌, List, [], ◌∷◌, ◌++◌, length, ◌≤◌, Option, Some, None}
+use Rattle.std.specs.List.{list_any}
 use Rattle.tf_history.specs.Events.Deed.{Write}
 use Rattle.tf_history.specs.Grouping.{has_key, counted, row_of, row_at, keep, stays, row_if_any, scratch}
 use Rattle.tf_model.specs.Keys.{is_among}
-use Rattle.tf_history.specs.Lives.{Checkpoint, Life, life, written, read_last, last_bound, cutoff, changed, last_row}
+use Rattle.tf_history.specs.Lives.{Checkpoint, Life, life, written, read_last, last_bound, cutoff, changed, last_row, is_under}
 use Rattle.tf_model.specs.Changed.{is_after}
 use Rattle.tf_history.specs.Legality.{IsLegal, PagesRight, IsIdle}
 use Rattle.tf_history.specs.Events.{Event}
@@ -85,3 +86,12 @@ RowsWhenRunning = (past : List Event) (t : List ℕ) (l : Life) (b : Checkpoint)
     row_at k l.rows ≡ cond (is_among (changed l.meaning l.checkpoints) k && not (is_after l.position k))
     (row_of l.meaning (counted l.meaning b.bound b.read) k)
     (keep (stays l.meaning (written l.meaning past) (cutoff l.meaning before)) (last_row l.meaning before k))
+
+-- bounds never fall, so a sync value below the bound of some checkpoint of a life is below the last one
+abbrev pub LastBoundDecides : Type 0
+LastBoundDecides = (past : List Event) (t : List ℕ) (l : Life) → IsLegal past → life t past ≡ Some l
+    → (v : Option ℤ) → list_any (λ b. is_under b.bound v) l.checkpoints ≡ is_under (last_bound l.checkpoints) v
+
+-- no more documents are late than the history has entries
+abbrev pub LateAreFew : Type 0
+LateAreFew = (past : List Event) (t : List ℕ) (l : Life) → IsLegal past → life t past ≡ Some l → l.late ≤ length past

@@ -10,3 +10,4 @@ pub mod Configured
 pub mod Reading
 pub mod Entries
 pub mod Agreement
+pub mod Acts

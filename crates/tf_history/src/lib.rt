@@ -4,7 +4,7 @@
 ghost use Rattle.tf_history.specs.Histories.{EachPrefixIsGrouped, RightAfterIsRight, MovesAreLegal};
 ghost use Rattle.tf_history.specs.Agreement.{MeaningsAgree};
 ghost use Rattle.tf_history.specs.Entries.{EntriesAreGrouped, LivesAreSteady};
-ghost use Rattle.tf_history.specs.Laws.{FinishedIsScratch, RowsWhenIdle, RowsWhenRunning, FirstIsScratch, BatchIsScratch, PagesAreExact, StampedIsNeverLate, KeptRowIsEarlier, IncludedIsScratch, AlignedIsApart};
+ghost use Rattle.tf_history.specs.Laws.{FinishedIsScratch, RowsWhenIdle, RowsWhenRunning, FirstIsScratch, BatchIsScratch, PagesAreExact, StampedIsNeverLate, KeptRowIsEarlier, IncludedIsScratch, AlignedIsApart, LastBoundDecides, LateAreFew};
 
 /// With none running and no late document the destination is the grouping from scratch of all
 /// documents written so far below the bound, less what the cutoff takes out.
@@ -98,4 +98,16 @@ pub fn entries_are_grouped()
 #[tactic(auto, using(crate::proofs::MeaningLaw::meanings_agree))]
 pub fn meanings_agree()
     ensures { MeaningsAgree }
+{}
+
+/// A document is late where its sync value is below the last bound: bounds never fall.
+#[tactic(auto, using(crate::proofs::LateLaw::last_bound_decides))]
+pub fn last_bound_decides()
+    ensures { LastBoundDecides }
+{}
+
+/// No more documents are late than the history has entries.
+#[tactic(auto, using(crate::proofs::LateLaw::late_are_few))]
+pub fn late_are_few()
+    ensures { LateAreFew }
 {}
