@@ -11,3 +11,4 @@ pub mod Reading
 pub mod Entries
 pub mod Agreement
 pub mod Acts
+pub mod Transforms

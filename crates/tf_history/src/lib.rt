@@ -3,7 +3,7 @@
 
 ghost use Rattle.tf_history.specs.Histories.{EachPrefixIsGrouped, RightAfterIsRight, MovesAreLegal};
 ghost use Rattle.tf_history.specs.Agreement.{MeaningsAgree};
-ghost use Rattle.tf_history.specs.Entries.{EntriesAreGrouped, LivesAreSteady};
+ghost use Rattle.tf_history.specs.Entries.{EntriesAreGrouped, LivesAreConfigured, LivesAreSteady};
 ghost use Rattle.tf_history.specs.Laws.{FinishedIsScratch, RowsWhenIdle, RowsWhenRunning, FirstIsScratch, BatchIsScratch, PagesAreExact, StampedIsNeverLate, KeptRowIsEarlier, IncludedIsScratch, AlignedIsApart, LastBoundDecides, LateAreFew};
 
 /// With none running and no late document the destination is the grouping from scratch of all
@@ -79,6 +79,12 @@ pub fn right_after_is_right()
 /// What the indexer would make next is legal and right.
 pub fn moves_are_legal()
     ensures { MovesAreLegal }
+{}
+
+/// A transform has a life where it was put and not deleted, and its life has the meaning of its configuration.
+#[tactic(auto, using(crate::proofs::EntriesLaw::lives_are_configured))]
+pub fn lives_are_configured()
+    ensures { LivesAreConfigured }
 {}
 
 /// A configured transform's rows keep their retention values among more documents.
