@@ -19,3 +19,4 @@ pub mod SteadyLaw
 pub mod EntriesLaw
 pub mod LateLaw
 pub mod MeaningLaw
+mod Example
