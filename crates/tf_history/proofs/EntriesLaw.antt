@@ -22,6 +22,7 @@ use Rattle.tf_history.specs.Histories.{AllRight, IsGrouped}
 use Rattle.tf_history.specs.Catalogue.{SourceIndex, ValuesOf, catalogue}
 use Rattle.tf_history.specs.Transforms.{PutTransform, transforms, transforms_after, transform_of, meaning_of}
 use Rattle.tf_history.specs.Reading.{event_of, events}
+use Rattle.tf_history.specs.LegalEntries.{LegalEntriesAreLegal}
 use Rattle.tf_history.specs.Entries.{LivesAreConfigured, LivesAreSteady, IsGroupedBy, EntriesAreGrouped}
 use Rattle.tf_history.proofs.Ids.{same_id}
 use Rattle.tf_history.proofs.HistoriesLaw.{grouped_here, pages_right}
@@ -133,6 +134,11 @@ steady_from (Some p) c e = subst IsSteady (same_Some (meaning_of p) c e) (config
 
 pub lives_are_steady : LivesAreSteady
 lives_are_steady values_of past t l is = steady_from (transform_of t past) l.meaning (sym (lives_are_configured values_of past t) ∙ ap meant is)
+
+-- ---- legality
+pub legal_entries_are_legal : LegalEntriesAreLegal
+legal_entries_are_legal reading [] h = tt
+legal_entries_are_legal reading (e ∷ past) h = (legal_entries_are_legal reading past h.0, h.1.allowed, h.1.later)
 
 -- ---- prefixes
 legal_before : (values_of : ValuesOf) (later past : List Entry) → IsLegal (events values_of (later ++ past)) → IsLegal (events values_of past)

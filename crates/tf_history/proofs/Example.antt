@@ -142,15 +142,51 @@ plain_sums = plain total None
 
 legal_plain : IsLegal (past_of (history plain_sums))
 unfolding key_cmp value_cmp value_of keys_of key_of floor_to aligned retained
-legal_plain =
-    ((((((((((((((((tt, tt, tt), refl, omega (arith, ints)), tt, omega (arith, ints)), tt, omega (arith, ints)), refl, omega (arith, ints))
-    , record { started = refl; idle = refl; due = refl; number = refl; bound_is = refl }, omega (arith, ints)), tt, omega (arith, ints))
-    , record { running = (refl, refl); active = refl; some = omega arith; fits = omega arith; ascending = (tt, tt); above = refl }, omega (arith, ints)), refl, omega (arith, ints)), refl, omega (arith, ints)), refl, omega (arith, ints))
-    , record { running = (refl, refl); active = refl; some = omega arith; fits = omega arith; ascending = (tt, tt); above = refl }, omega (arith, ints))
-    , record { running = (refl, refl); active = refl; nothing_left = refl }, omega (arith, ints))
-    , record { started = refl; idle = refl; due = refl; number = refl; bound_is = refl }, omega (arith, ints))
-    , record { running = (refl, refl); active = refl; some = omega arith; fits = omega arith; ascending = (tt, tt); above = refl }, omega (arith, ints))
-    , record { running = (refl, refl); active = refl; nothing_left = refl }, omega (arith, ints))
+legal_plain = (
+  (
+    (
+      (
+        (
+          (
+            (
+              (
+                (
+                  (
+                    (
+                      (((((tt, tt, tt), refl, omega (arith, ints)), tt, omega (arith, ints)), tt, omega (arith, ints)), refl, omega (arith, ints)),
+                      record { started = refl; idle = refl; due = refl; number = refl; bound_is = refl },
+                      omega (arith, ints),
+                    ),
+                    tt,
+                    omega (arith, ints),
+                  ),
+                  record { running = (refl, refl); active = refl; some = omega arith; fits = omega arith; ascending = (tt, tt); above = refl },
+                  omega (arith, ints),
+                ),
+                refl,
+                omega (arith, ints),
+              ),
+              refl,
+              omega (arith, ints),
+            ),
+            refl,
+            omega (arith, ints),
+          ),
+          record { running = (refl, refl); active = refl; some = omega arith; fits = omega arith; ascending = (tt, tt); above = refl },
+          omega (arith, ints),
+        ),
+        record { running = (refl, refl); active = refl; nothing_left = refl },
+        omega (arith, ints),
+      ),
+      record { started = refl; idle = refl; due = refl; number = refl; bound_is = refl },
+      omega (arith, ints),
+    ),
+    record { running = (refl, refl); active = refl; some = omega arith; fits = omega arith; ascending = (tt, tt); above = refl },
+    omega (arith, ints),
+  ),
+  record { running = (refl, refl); active = refl; nothing_left = refl },
+  omega (arith, ints),
+)
 
 history_is_legal : IsLegal (past_of (history sums))
 history_is_legal = subst (λ c. IsLegal (past_of (history c))) (plain_is total None) legal_plain

@@ -12,3 +12,4 @@ pub mod Entries
 pub mod Agreement
 pub mod Acts
 pub mod Transforms
+pub mod LegalEntries

@@ -4,6 +4,7 @@
 ghost use Rattle.tf_history.specs.Histories.{EachPrefixIsGrouped, RightAfterIsRight, MovesAreLegal};
 ghost use Rattle.tf_history.specs.Agreement.{MeaningsAgree};
 ghost use Rattle.tf_history.specs.Entries.{EntriesAreGrouped, LivesAreConfigured, LivesAreSteady};
+ghost use Rattle.tf_history.specs.LegalEntries.{LegalEntriesAreLegal};
 ghost use Rattle.tf_history.specs.Laws.{FinishedIsScratch, RowsWhenIdle, RowsWhenRunning, FirstIsScratch, BatchIsScratch, PagesAreExact, StampedIsNeverLate, KeptRowIsEarlier, IncludedIsScratch, AlignedIsApart, LastBoundDecides, LateAreFew};
 
 /// With none running and no late document the destination is the grouping from scratch of all
@@ -79,6 +80,12 @@ pub fn right_after_is_right()
 /// What the indexer would make next is legal and right.
 pub fn moves_are_legal()
     ensures { MovesAreLegal }
+{}
+
+/// Legal entries are legal events, so every law of checkpoints holds of them.
+#[tactic(auto, using(crate::proofs::EntriesLaw::legal_entries_are_legal))]
+pub fn legal_entries_are_legal()
+    ensures { LegalEntriesAreLegal }
 {}
 
 /// A transform has a life where it was put and not deleted, and its life has the meaning of its configuration.
