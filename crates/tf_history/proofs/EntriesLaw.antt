@@ -1,14 +1,12 @@
 -- From histories of entries to histories of events.
-use Rattle.std.proofs.Common.{◌≡◌, ℕ, ◌<◌, Bool, true, false, cond, not, List, [], ◌∷◌, ◌++◌, take, drop, reverse, Option, Some, None, refl, sym, ap, ◌∙◌, subst}
-use Rattle.std.specs.Prelude.{⊤, option_map, is_some, is_none}
+use Rattle.std.proofs.Common.{◌≡◌, ℕ, Bool, true, false, cond, not, List, [], ◌∷◌, ◌++◌, take, drop, reverse, Option, Some, None, refl, sym, ap, ◌∙◌, subst}
+use Rattle.std.specs.Prelude.{option_map, is_some, is_none}
 use Rattle.std.specs.List.{filter, find}
 use Rattle.std.proofs.lemmas.List.{reverse-append, take-append-drop}
 use Rattle.std.proofs.lemmas.Option.{same_Some}
-use Rattle.std.proofs.lemmas.Slice.Eq.{bytes_eq-Decides}
 use Rattle.tf_model.specs.declared.doc.Doc.{Doc}
 use Rattle.tf_model.specs.declared.config.SyncTime.{SyncTime}
 use Rattle.tf_model.specs.declared.entry.Entry.{Entry}
-use Rattle.tf_model.specs.declared.entry.Kind.{Kind}
 use Rattle.tf_model.specs.declared.entry.Kind.TheVariants as kind
 use Rattle.tf_history.specs.Meaning.{Meaning}
 use Rattle.tf_history.specs.Events.{Event}
@@ -16,7 +14,7 @@ use Rattle.tf_history.specs.Grouping.{scratch}
 use Rattle.tf_history.specs.Lives.{Life, Act, act, life, life_after, documents, is_same, last_bound, read_last, cutoff, written}
 use Rattle.tf_history.specs.Lives.Act.{Aside, Opens, Reopens, Closes, Writes, Begins, Pages, Finishes, Turns}
 use Rattle.tf_history.specs.Lives.Turn.{Starts, Asks, Stops, Prompts, Fails}
-use Rattle.tf_history.specs.Legality.{IsLegal, IsIdle}
+use Rattle.tf_history.specs.Legality.{IsLegal}
 use Rattle.tf_history.specs.Laws.{IsSteady}
 use Rattle.tf_history.specs.Histories.{AllRight, IsGrouped}
 use Rattle.tf_history.specs.Catalogue.{SourceIndex, ValuesOf, catalogue}

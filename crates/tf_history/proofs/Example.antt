@@ -1,6 +1,6 @@
 -- Worked histories, by computation. In the first a pivot sums cents by customer: two Pages with a stop between them, a
 -- document at the bound that waits, and a second checkpoint.
-use Rattle.std.proofs.Common.{◌≡◌, ℕ, true, false, List, [], ◌∷◌, ◌++◌, Option, Some, None, arith, refl, sym, ap, ◌∙◌, subst, take, drop}
+use Rattle.std.proofs.Common.{◌≡◌, ℕ, true, false, List, [], ◌∷◌, ◌++◌, Option, Some, None, arith, refl, sym, ap, ◌∙◌, subst, take}
 use Rattle.std.specs.Prelude.{pos, codes, option_map}
 use Rattle.std.proofs.lemmas.Int.{ints}
 use Rattle.tf_model.specs.declared.doc.Doc.{Doc}
@@ -27,7 +27,7 @@ use Rattle.tf_history.specs.Events.{Deed, Event}
 use Rattle.tf_history.specs.Events.Deed.{Index, Write, Put, Start, Stopped, Begin, Page, Finish, StopAsked}
 use Rattle.tf_history.specs.Grouping.{scratch}
 use Rattle.tf_history.specs.Configured.{meaning}
-use Rattle.tf_history.specs.Lives.{Life, written, last_bound, cutoff}
+use Rattle.tf_history.specs.Lives.{Life, written}
 use Rattle.tf_history.specs.Legality.{IsLegal, next_move}
 use Rattle.tf_history.specs.Histories.{past_of, life_of, AllRight}
 

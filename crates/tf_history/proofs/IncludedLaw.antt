@@ -1,5 +1,5 @@
 -- Where late documents are included each row is over the documents that were read last.
-use Rattle.std.proofs.Common.{◌≡◌, ℤ, ◌<◌, Bool, true, false, cond, not, ◌&&◌, ◌||◌, List, [], ◌∷◌, ◌++◌, length, drop, Option, Some, None, arith, refl, sym, ap, ◌∙◌, subst}
+use Rattle.std.proofs.Common.{◌≡◌, ℤ, ◌<◌, Bool, true, false, cond, ◌&&◌, ◌||◌, List, [], ◌∷◌, ◌++◌, length, drop, Option, Some, None, arith, refl, sym, ap, ◌∙◌, subst}
 use Rattle.std.specs.Prelude.{⊤, IfSome}
 use Rattle.std.specs.List.{list_any, filter}
 use Rattle.std.proofs.lemmas.List.{append-nil, drop_at}
@@ -108,7 +108,7 @@ kept = record {
     whole = step (documents past) (documents past ++ []) (Begins n bound moment) (Some l) refl m h.whole;
     own = λ f i. begun_own l.meaning (record { bound = bound; moment = moment; read = written l.meaning past; late = l.late }) l.checkpoints i (h.whole.bounded f) (l.meaning.aligned moment) (m.bound_is ∙ continuous_next l.meaning (last_bound l.checkpoints) moment f) h.reads.reads (h.own f i);
   };
-  paged = λ past moment id n rows l legal m r h. record { reads = reads_kept.paged past moment id n rows l legal m r h.reads; whole = step (documents past) (documents past ++ []) (Pages n rows) (Some l) refl m h.whole; own = h.own };
+  paged = λ past moment id n rows l legal m r h. record { reads = reads_kept.paged past moment id n rows l legal m tt h.reads; whole = step (documents past) (documents past ++ []) (Pages n rows) (Some l) refl m h.whole; own = h.own };
   done = λ past moment id n l legal m h. record { reads = reads_kept.done past moment id n l legal m h.reads; whole = step (documents past) (documents past ++ []) (Finishes n) (Some l) refl m h.whole; own = h.own };
 }
 

@@ -4,7 +4,7 @@ use Rattle.std.specs.Prelude.{⊤, IfSome}
 use Rattle.std.specs.List.{list_any}
 use Rattle.tf_history.specs.Meaning.{Meaning}
 use Rattle.tf_history.specs.Events.{Event}
-use Rattle.tf_history.specs.Lives.{Checkpoint, Life, life, last_bound, next_bound, is_under, is_late}
+use Rattle.tf_history.specs.Lives.{Checkpoint, Life, last_bound, next_bound, is_under, is_late}
 use Rattle.tf_model.specs.Bounds.{risen}
 use Rattle.tf_history.specs.Laws.{LastBoundDecides, LateAreFew}
 use Rattle.tf_history.proofs.Counting.{below_risen}

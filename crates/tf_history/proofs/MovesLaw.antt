@@ -1,13 +1,13 @@
 use Rattle.tf_history.specs.Lives.Turn.{Starts, Asks, Stops, Prompts, Fails}
 use Rattle.std.proofs.lemmas.List.{length-map}
 -- What the indexer would make next is legal and right.
-use Rattle.std.proofs.Common.{◌≡◌, ℕ, ℤ, ◌+◌, ◌<◌, ◌≤◌, zero, suc, Bool, true, false, cond, not, ◌&&◌, ◌||◌, List, [], ◌∷◌, length, map, take, Option, Some, None, arith, refl, sym, ap, ◌∙◌, subst, inl, inr, ◌⊎◌, ltb-true, length-take, ltb-false}
+use Rattle.std.proofs.Common.{◌≡◌, ℕ, ℤ, ◌+◌, ◌<◌, ◌≤◌, zero, suc, Bool, true, false, cond, ◌&&◌, List, [], ◌∷◌, length, map, take, Option, Some, None, arith, refl, sym, ap, ◌∙◌, subst, inl, inr, ◌⊎◌, ltb-true, length-take, ltb-false}
 use Rattle.std.specs.Prelude.{⊤, IfSome, IsSomeAnd, is_none, option_map, option_and_then, filter_map, nat_lt}
 use Rattle.std.specs.List.{filter, find, list_all, cons_option}
 use Rattle.std.proofs.lemmas.Option.{same_Some}
 use Rattle.tf_history.specs.Events.Deed.{Page, Finish, Stopped as StoppedDeed}
 use Rattle.tf_model.specs.declared.task.State.{State}
-use Rattle.tf_history.specs.Lives.{Checkpoint, Life, life, documents, counted_last, changed, window, last_bound, next_bound, is_running, Turn, state_turned, after_finish}
+use Rattle.tf_history.specs.Lives.{Life, life, documents, counted_last, changed, window, last_bound, next_bound, is_running, Turn, state_turned, after_finish}
 use Rattle.tf_model.specs.Changed.{is_after}
 use Rattle.tf_model.specs.declared.task.State.TheVariants.{Stopped, Started, Indexing, Stopping, Failed}
 use Rattle.tf_history.specs.Legality.{IsBelowAll, IsAscending, IsRunning, MayBegin, MayPage, MayFail, MayFinish, IsRight, IsAllowed, is_active, is_started, is_due, may_stop, to_do, next_page, row_now, sum_now, told, failing, move_of, page_move, fail_move, begin_move}

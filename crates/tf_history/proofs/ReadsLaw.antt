@@ -4,13 +4,13 @@ use Rattle.std.specs.Prelude.{⊤, IfSome}
 use Rattle.std.proofs.lemmas.List.Elements.{filter-append}
 use Rattle.tf_history.specs.Grouping.{counted, row_of, stays, keep, scratch, all_keys}
 use Rattle.tf_model.specs.Keys.{is_among}
-use Rattle.tf_history.specs.Lives.{Checkpoint, Life, documents, written, from_sources, writes, cutoff, last_row, last_bound, read_last}
+use Rattle.tf_history.specs.Lives.{Checkpoint, Life, life, documents, written, from_sources, writes, cutoff, last_row, last_bound, read_last}
 use Rattle.tf_model.specs.Bounds.{risen}
-use Rattle.tf_history.specs.Legality.{IsRight}
-use Rattle.tf_history.specs.Laws.{IsSound, FirstIsScratch, BatchIsScratch}
+use Rattle.tf_history.specs.Legality.{IsLegal}
+use Rattle.tf_history.specs.Laws.{FirstIsScratch, BatchIsScratch}
 use Rattle.tf_history.proofs.Keys.{is_among-all_keys}
 use Rattle.tf_history.proofs.Counting.{keep_same}
-use Rattle.tf_history.proofs.Induction.{IsKept, holds, right_known}
+use Rattle.tf_history.proofs.Induction.{IsKept, holds, legal_known}
 use Rattle.tf_history.proofs.CompleteLaw.{rows_when_idle, is_scratch, held}
 use Rattle.tf_history.specs.Events.{Event}
 use Rattle.tf_history.specs.Meaning.{Meaning}
@@ -38,7 +38,7 @@ more_begin (b ∷ before) docs new h = ((h.0.0 ++ new, ap (λ ds. ds ++ new) h.0
 written_more : (c : Meaning) (past : List Event) (new : List Doc) (checkpoints : List Checkpoint) → AllBegin checkpoints (written c past) → AllBegin checkpoints (from_sources c (documents past ++ new))
 written_more c past new checkpoints h = subst (AllBegin checkpoints) (sym (filter-append (λ d. c.is_source d.index) (documents past) new)) (more_begin checkpoints (written c past) (from_sources c new) h)
 
-pub kept : IsKept IsRight ReadsHold
+pub kept : IsKept (λ _ _. ⊤) ReadsHold
 kept = record {
   opened = λ past moment deed c. record { reads = tt; one = λ _. tt };
   aside = λ past moment deed l legal none h. record { reads = written_more l.meaning past (writes deed) l.checkpoints h.reads; one = h.one };
@@ -52,12 +52,12 @@ kept = record {
   done = λ past moment id n l legal m h. record { reads = written_more l.meaning past [] l.checkpoints h.reads; one = h.one };
 }
 
-reads_held : (past : List Event) (t : List ℕ) (l : Life) → IsSound past t l → ReadsHold past l
-reads_held past t l sound = subst (λ o. IfSome o (ReadsHold past)) sound.is (holds IsRight ReadsHold kept t past sound.legal (right_known t past sound.right))
+pub reads_held : (past : List Event) (t : List ℕ) (l : Life) → IsLegal past → life t past ≡ Some l → ReadsHold past l
+reads_held past t l legal is = subst (λ o. IfSome o (ReadsHold past)) is (holds (λ _ _. ⊤) ReadsHold kept t past legal (legal_known t past legal))
 
 pub first_is_scratch : FirstIsScratch
 first_is_scratch past t l b sound idle only =
-    let reads = subst (λ (cs : List Checkpoint). AllBegin cs (written l.meaning past)) only (reads_held past t l sound).reads in
+    let reads = subst (λ (cs : List Checkpoint). AllBegin cs (written l.meaning past)) only (reads_held past t l sound.legal sound.is).reads in
     is_scratch l.meaning b.bound (cutoff l.meaning l.checkpoints) b.read l.rows (held past t l sound).ascending
     (λ k. rows_when_idle past t l sound idle k
     ∙ (ap (keep (stays l.meaning (written l.meaning past) (cutoff l.meaning l.checkpoints))) (ap (λ (cs : List Checkpoint). last_row l.meaning cs k) only)
@@ -74,4 +74,4 @@ batch_one c (b ∷ before) cut rows some one h = h b (ap (λ cs. b ∷ cs) one.0
 
 pub batch_is_scratch : BatchIsScratch
 batch_is_scratch past t l sound idle some batch =
-    batch_one l.meaning l.checkpoints (cutoff l.meaning l.checkpoints) l.rows (omega arith) ((reads_held past t l sound).one batch) (λ b only. first_is_scratch past t l b sound idle only)
+    batch_one l.meaning l.checkpoints (cutoff l.meaning l.checkpoints) l.rows (omega arith) ((reads_held past t l sound.legal sound.is).one batch) (λ b only. first_is_scratch past t l b sound idle only)

@@ -1,5 +1,5 @@
 -- A configured transform's row has the same retention value among more documents.
-use Rattle.std.proofs.Common.{◌≡◌, ℕ, ℤ, Bool, true, false, cond, ◌&&◌, ◌||◌, List, [], ◌∷◌, ◌++◌, Option, Some, None, refl, sym, ap, ◌∙◌, subst}
+use Rattle.std.proofs.Common.{◌≡◌, ℕ, Bool, true, false, cond, ◌&&◌, ◌||◌, List, [], ◌∷◌, ◌++◌, Option, Some, None, refl, ap, ◌∙◌, subst}
 use Rattle.std.specs.Prelude.{option_and_then, option_map}
 use Rattle.std.specs.List.{list_any, filter, find}
 use Rattle.std.specs.Ordering.{max_by_ordering}
@@ -18,7 +18,7 @@ use Rattle.tf_model.specs.Latest.{newer, newest, age_cmp}
 use Rattle.tf_model.specs.Rows.{of_both}
 use Rattle.tf_model.specs.Values.{value_of}
 use Rattle.tf_history.specs.Meaning.{row_from}
-use Rattle.tf_history.specs.Grouping.{has_key, counts, counted}
+use Rattle.tf_history.specs.Grouping.{has_key, counts}
 use Rattle.tf_history.specs.Laws.{IsSteady}
 use Rattle.tf_history.specs.Configured.{meaning, content_by, name_of}
 use Rattle.tf_model.specs.Retention.{date_of, is_named, named_doc, retained_by, retained}

@@ -1,5 +1,5 @@
 -- The words of a meaning that is made from a configuration are those of the configuration itself.
-use Rattle.std.specs.Prelude.{◌≡◌, ℕ, ℤ, Bool, List, [], ◌∷◌, Option, Some, None}
+use Rattle.std.specs.Prelude.{◌≡◌, ℕ, ℤ, List, [], ◌∷◌, Option, Some, None}
 use Rattle.tf_model.specs.declared.doc.Doc.{Doc}
 use Rattle.tf_model.specs.declared.value.Key.{Key}
 use Rattle.tf_model.specs.declared.config.Config.{Config}

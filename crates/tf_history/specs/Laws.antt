@@ -1,6 +1,6 @@
 -- The laws, over the definitions alone. In each, past is a history with its newest entry first.
-use Rattle.std.specs.Prelude.{◌≡◌, ℕ, ℤ, suc, ◌+◌, ◌<◌, ◌-◌, ◌/◌, ◌≤ℤ◌, ⊤, true, false, cond, not, ◌&&◌, List, [], ◌∷◌, ◌++◌, length, ◌≤◌, Option, Some, None}
-use Rattle.std.specs.List.{list_any}
+use Rattle.std.specs.Prelude.{◌≡◌, ℕ, ℤ, suc, ◌+◌, ◌<◌, ◌-◌, ◌/◌, ◌≤ℤ◌, ⊤, Bool, true, false, cond, not, ◌&&◌, List, [], ◌∷◌, ◌++◌, length, ◌≤◌, Option, Some, None}
+use Rattle.std.specs.List.{list_any, list_all}
 use Rattle.tf_history.specs.Events.Deed.{Write}
 use Rattle.tf_history.specs.Grouping.{has_key, counted, row_of, row_at, keep, stays, row_if_any, scratch}
 use Rattle.tf_model.specs.Keys.{is_among}
@@ -48,10 +48,11 @@ BatchIsScratch = (past : List Event) (t : List ℕ) (l : Life) → IsSound past 
 abbrev pub PagesAreExact : Type 0
 PagesAreExact = (past : List Event) (t : List ℕ) (l : Life) → IsSound past t l → IsIdle l → 0 < l.finished → 0 < l.meaning.page_size → l.pages ≡ (length (changed l.meaning l.checkpoints) + (l.meaning.page_size - 1)) / l.meaning.page_size
 
--- the keys show where the sync value stands: one that has the key lies in the key's interval, and each bound is the low end of one
-pub record IsAligned (c : Meaning) (part : Key → ℤ) (floor : ℤ → ℤ) : Type 0 where
-  pub of_key : (k : Key) (d : Doc) → has_key c k d ≡ true → (v : ℤ) → c.sync d ≡ Some v → floor v ≡ part k
-  pub below : (v : ℤ) → floor v ≤ℤ v
+-- keys that show where the sync value stands: a fitting document that has the key lies in the key's interval, and no interval
+-- begins below an aligned moment and ends above it
+pub record IsAligned (c : Meaning) (fits : Doc → Bool) (part : Key → ℤ) (floor : ℤ → ℤ) : Type 0 where
+  pub of_key : (k : Key) (d : Doc) → fits d ≡ true → has_key c k d ≡ true → (v : ℤ) → c.sync d ≡ Some v → floor v ≡ part k
+  pub below : (d : Doc) → fits d ≡ true → (v : ℤ) → c.sync d ≡ Some v → floor v ≤ℤ v
   pub bounds : (moment v : ℤ) → c.aligned moment ≤ℤ v → c.aligned moment ≤ℤ floor v
 
 -- a key is in no changed keys of the list's checkpoints
@@ -64,8 +65,10 @@ abbrev pub AreApart : Meaning → List Checkpoint → Type 0
 AreApart c [] = ⊤
 AreApart c (b ∷ before) = ((k : Key) → is_among (changed c (b ∷ before)) k ≡ true → IsNeverChanged c before k) × AreApart c before
 
+-- where bounds are aligned to the intervals of the keys, and all documents fit, no key is changed in two checkpoints
 abbrev pub AlignedIsApart : Type 0
-AlignedIsApart = (past : List Event) (t : List ℕ) (l : Life) (part : Key → ℤ) (floor : ℤ → ℤ) → IsLegal past → life t past ≡ Some l → l.meaning.is_batch ≡ false → l.meaning.includes_late ≡ false → IsAligned l.meaning part floor → AreApart l.meaning l.checkpoints
+AlignedIsApart = (past : List Event) (t : List ℕ) (l : Life) (fits : Doc → Bool) (part : Key → ℤ) (floor : ℤ → ℤ) → IsLegal past → life t past ≡ Some l
+    → l.meaning.is_batch ≡ false → l.meaning.includes_late ≡ false → list_all fits (written l.meaning past) ≡ true → IsAligned l.meaning fits part floor → AreApart l.meaning l.checkpoints
 
 -- every document written into the sources has the moment of its entry as sync value
 abbrev pub IsStamped : Meaning → List Event → Type 0

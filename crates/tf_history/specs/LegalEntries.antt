@@ -1,6 +1,6 @@
 -- Which entries of a history are legal: what the laws use of legality, and beside it the rules for moments, actors,
 -- indices, documents, configurations and rows.
-use Rattle.std.specs.Prelude.{◌≡◌, ℕ, ℤ, ◌<◌, ◌≤◌, ◌^◌, pos, negsuc, ⊤, Bool, true, false, not, ◌&&◌, ◌||◌, nat_eq, List, [], ◌∷◌, length, Option, Some, None, IsSomeAnd, IfSome, slice_get, count_by}
+use Rattle.std.specs.Prelude.{◌≡◌, ℕ, ℤ, ◌<◌, ◌≤◌, ◌^◌, pos, negsuc, ⊤, Bool, true, false, not, ◌&&◌, ◌||◌, nat_eq, List, [], ◌∷◌, length, IsSomeAnd, IfSome, slice_get, count_by}
 use Rattle.std.specs.List.{list_any, list_all, AllByRecursion}
 use Rattle.std.specs.Str.{bytes_eq}
 use Rattle.tf_model.specs.declared.doc.Doc.{Doc}
@@ -25,7 +25,7 @@ use Rattle.tf_model.specs.Conditions.{IsBetween, IsSpan, IsDate}
 use Rattle.tf_model.specs.Retention.{is_named}
 use Rattle.tf_history.specs.Catalogue.{SourceIndex, ValuesOf, catalogue}
 use Rattle.tf_history.specs.Transforms.{PutTransform, transforms, transform_of}
-use Rattle.tf_history.specs.Lives.{Life, life, documents, read_last}
+use Rattle.tf_history.specs.Lives.{life, documents, read_last}
 use Rattle.tf_history.specs.Legality.{IsAllowed, IsNotBefore, IsLegal}
 use Rattle.tf_history.specs.Reading.{deed_of, events}
 
