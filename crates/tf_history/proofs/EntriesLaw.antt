@@ -122,7 +122,7 @@ lives_are_configured values_of (e ∷ past) t =
     ∙ entered values_of t (catalogue past) e (transforms past))
 
 -- the meaning of a life is that of the transform
-same_meaning : (values_of : ValuesOf) (past : List Entry) (t : List ℕ) (p : PutTransform) (l : Life) → transform_of t past ≡ Some p → life t (events values_of past) ≡ Some l → meaning_of p ≡ l.meaning
+pub same_meaning : (values_of : ValuesOf) (past : List Entry) (t : List ℕ) (p : PutTransform) (l : Life) → transform_of t past ≡ Some p → life t (events values_of past) ≡ Some l → meaning_of p ≡ l.meaning
 same_meaning values_of past t p l put is =
     same_Some (meaning_of p) l.meaning (ap (option_map meaning_of) (sym put) ∙ (sym (lives_are_configured values_of past t) ∙ ap meant is))
 

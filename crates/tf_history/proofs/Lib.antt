@@ -20,3 +20,5 @@ pub mod EntriesLaw
 pub mod LateLaw
 pub mod MeaningLaw
 mod Example
+mod Floors
+mod OnceLaw

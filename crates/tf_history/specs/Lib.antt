@@ -13,3 +13,4 @@ pub mod Agreement
 pub mod Acts
 pub mod Transforms
 pub mod LegalEntries
+pub mod ConfiguredLaws
