@@ -21,4 +21,5 @@ pub mod LateLaw
 pub mod MeaningLaw
 mod Example
 mod Floors
-mod OnceLaw
+pub mod OnceLaw
+pub mod StampedLaw

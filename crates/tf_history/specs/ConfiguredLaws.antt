@@ -34,10 +34,6 @@ abbrev pub ReadsStamps : Reading → Type 0
 ReadsStamps reading = (s : SourceIndex) (moment : ℤ) (tree : Tree) (field : List ℕ) → reading.is_read s moment tree ≡ true → s.stamp ≡ Some field
     → value_at (reading.values_of s.mapping s.stamp tree) field ≡ Some (Date moment)
 
--- an interval of an alignment is at least 1
-abbrev pub IsStep : Option ℤ → Type 0
-IsStep step = IfSome step (λ ms. pos 0 <ℤ ms)
-
 -- where every source of a transform has its sync field as stamp, no document is late
 abbrev pub StampedSourcesAreNeverLate : Type 0
 StampedSourcesAreNeverLate = (reading : Reading) (past : List Entry) (t : List ℕ) (p : PutTransform) (l : Life) (sync : SyncTime)

@@ -3,6 +3,7 @@
 
 ghost use Rattle.tf_history.specs.Histories.{EachPrefixIsGrouped, RightAfterIsRight, MovesAreLegal};
 ghost use Rattle.tf_history.specs.Agreement.{MeaningsAgree};
+ghost use Rattle.tf_history.specs.ConfiguredLaws.{AlignedKeysAppearOnce, StampedSourcesAreNeverLate};
 ghost use Rattle.tf_history.specs.Entries.{EntriesAreGrouped, LivesAreConfigured, LivesAreSteady};
 ghost use Rattle.tf_history.specs.LegalEntries.{LegalEntriesAreLegal};
 ghost use Rattle.tf_history.specs.Laws.{FinishedIsScratch, RowsWhenIdle, RowsWhenRunning, FirstIsScratch, BatchIsScratch, PagesAreExact, StampedIsNeverLate, KeptRowIsEarlier, IncludedIsScratch, AlignedIsApart, LastBoundDecides, LateAreFew};
@@ -123,4 +124,16 @@ pub fn last_bound_decides()
 #[tactic(auto, using(crate::proofs::LateLaw::late_are_few))]
 pub fn late_are_few()
     ensures { LateAreFew }
+{}
+
+/// Where every source of a transform sets the sync field to the moment of the write, no document is late.
+#[tactic(auto, using(crate::proofs::StampedLaw::stamped_sources_are_never_late))]
+pub fn stamped_sources_are_never_late()
+    ensures { StampedSourcesAreNeverLate }
+{}
+
+/// Where bounds are aligned to a date_histogram over the sync field, no key is changed in two checkpoints of a life.
+#[tactic(auto, using(crate::proofs::OnceLaw::aligned_keys_appear_once))]
+pub fn aligned_keys_appear_once()
+    ensures { AlignedKeysAppearOnce }
 {}
