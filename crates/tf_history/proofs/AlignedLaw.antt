@@ -11,8 +11,9 @@ use Rattle.tf_model.specs.Bounds.{risen}
 use Rattle.tf_history.specs.Grouping.{from_bound}
 use Rattle.tf_history.specs.Laws.{IsAligned, IsNeverChanged, AreApart, AlignedIsApart}
 use Rattle.tf_history.proofs.Keys.{is_among-all_keys}
-use Rattle.tf_history.proofs.CompleteLaw.{continuous_next}
-use Rattle.tf_history.proofs.Lists.{any_filter}
+use Rattle.tf_history.proofs.CompleteLaw.{continuous_next, window_is}
+use Rattle.tf_history.proofs.Numbers.{int_trans, at_most_from}
+use Rattle.tf_history.proofs.Lists.{any_filter, and_first, and_second}
 use Rattle.tf_history.proofs.ReadsLaw.{AllBegin, reads_held}
 use Rattle.tf_history.proofs.Induction.{IsKept, holds, legal_known}
 use Rattle.tf_history.specs.Events.{Event}
@@ -20,26 +21,18 @@ use Rattle.tf_history.specs.Meaning.{Meaning}
 use Rattle.tf_model.specs.declared.doc.Doc.{Doc}
 use Rattle.tf_model.specs.declared.value.Key.{Key}
 
-first : (p q : Bool) → (p && q) ≡ true → p ≡ true
-first true q f = refl
-first false q f = f
-
-second : (p q : Bool) → (p && q) ≡ true → q ≡ true
-second true q f = f
-second false q f = absurd (let z : false ≡ true = f in cc)
-
 -- some element passes a test, and the other that all pass
 some_fit : {X : Type 0} (p r : X → Bool) (xs : List X) → list_any p xs ≡ true → list_all r xs ≡ true → (x : X) × ((p x ≡ true) × (r x ≡ true))
 some_fit p r [] e f = absurd (let z : false ≡ true = e in cc)
 some_fit p r (x ∷ xs) e f =
     elim (p x) as (λ b. p x ≡ b → (b || list_any p xs) ≡ true → (y : _) × ((p y ≡ true) × (r y ≡ true))) [
-      | true ↦ λ s g. (x, (s, first (r x) (list_all r xs) f))
-      | false ↦ λ s g. some_fit p r xs g (second (r x) (list_all r xs) f)
+      | true ↦ λ s g. (x, (s, and_first (r x) (list_all r xs) f))
+      | false ↦ λ s g. some_fit p r xs g (and_second (r x) (list_all r xs) f)
     ] refl e
 
 fit_front : {X : Type 0} (p : X → Bool) (xs ys : List X) → list_all p (xs ++ ys) ≡ true → list_all p xs ≡ true
 fit_front p [] ys e = refl
-fit_front p (x ∷ xs) ys e = λ i. first (p x) (list_all p (xs ++ ys)) e i && fit_front p xs ys (second (p x) (list_all p (xs ++ ys)) e) i
+fit_front p (x ∷ xs) ys e = λ i. and_first (p x) (list_all p (xs ++ ys)) e i && fit_front p xs ys (and_second (p x) (list_all p (xs ++ ys)) e) i
 
 -- the documents that each checkpoint read fit
 abbrev pub AllFit : (Doc → Bool) → List Checkpoint → Type 0
@@ -59,9 +52,6 @@ abbrev pub IsRising : (ℤ → ℤ) → ℤ → List Checkpoint → Type 0
 IsRising floor top [] = ⊤
 IsRising floor top (b ∷ before) = (x : ℤ) × ((b.bound ≡ Some x) × IsLowEnd floor x × (x ≤ℤ top) × IsRising floor x before)
 
-int_trans : (x y z : ℤ) → x ≤ℤ y → y ≤ℤ z → x ≤ℤ z
-int_trans x y z e f = grind (arith, ints)
-
 int_same : (x y : ℤ) → x ≡ y → x ≤ℤ y
 int_same x y e = grind (arith, ints)
 
@@ -70,13 +60,6 @@ max_left x y = grind (arith, ints)
 
 not_both : (x y z : ℤ) → int_lt x y ≡ true → y ≤ℤ z → z ≤ℤ x → ⊥
 not_both x y z e f g = grind (arith, ints)
-
-not_less : (x y : ℤ) → int_le y x ≡ true → y ≤ℤ x
-not_less x y e = grind (arith, ints)
-
-rising_higher : (floor : ℤ → ℤ) (x y : ℤ) (checkpoints : List Checkpoint) → x ≤ℤ y → IsRising floor x checkpoints → IsRising floor y checkpoints
-rising_higher floor x y [] e h = tt
-rising_higher floor x y (b ∷ before) e h = (h.0, (h.1.0, h.1.1, int_trans h.0 x y h.1.2 e, h.1.3))
 
 max_aligned : (floor : ℤ → ℤ) (x y : ℤ) → IsLowEnd floor x → IsLowEnd floor y → IsLowEnd floor (int_max x y)
 max_aligned floor x y e f = elim (int_lt y x) as (λ b. IsLowEnd floor (cond b x y)) [ true ↦ e | false ↦ f ]
@@ -89,9 +72,6 @@ value_of c bound x d is e = split (c.matches d) (c.sync d) refl (ap (λ o. c.mat
     split true (Some v) s f = (v, (s, f))
     split true None s f = absurd (let z : false ≡ true = f in cc)
     split false o s f = absurd (let z : false ≡ true = f in cc)
-
-window_is : (c : Meaning) (b a : Checkpoint) (before : List Checkpoint) → c.includes_late ≡ false → window c (b ∷ a ∷ before) ≡ from_bound c a.bound (counted c b.bound b.read)
-window_is c b a before ignores = ap (λ t. cond t (from_bound c a.bound (counted c b.bound a.read) ++ counted c b.bound (drop (length a.read) b.read)) (from_bound c a.bound (counted c b.bound b.read))) ignores
 
 any_and : {X : Type 0} (p q : X → Bool) (xs : List X) → list_any p (filter q xs) ≡ list_any (λ x. p x && q x) xs
 any_and p q [] = refl
@@ -116,8 +96,8 @@ module _ (c : Meaning) (fits : Doc → Bool) (part : Key → ℤ) (floor : ℤ �
   counted_low : (k : Key) (bound : Option ℤ) (x : ℤ) (docs : List Doc) → bound ≡ Some x → list_all fits docs ≡ true → list_any (has_key c k) (counted c bound docs) ≡ true → int_lt (part k) x ≡ true
   counted_low k bound x docs is fit e =
       let d = some_fit (λ d. has_key c k d && counts c bound d) fits docs (sym (any_and (has_key c k) (counts c bound) docs) ∙ e) fit in
-      let v = value_of c bound x d.0 is (second (has_key c k d.0) (counts c bound d.0) d.1.0) in
-      subst (λ p. int_lt p x ≡ true) (aligned.of_key k d.0 d.1.1 (first (has_key c k d.0) (counts c bound d.0) d.1.0) v.0 v.1.0)
+      let v = value_of c bound x d.0 is (and_second (has_key c k d.0) (counts c bound d.0) d.1.0) in
+      subst (λ p. int_lt p x ≡ true) (aligned.of_key k d.0 d.1.1 (and_first (has_key c k d.0) (counts c bound d.0) d.1.0) v.0 v.1.0)
       (lower x (floor v.0) v.0 (aligned.below d.0 d.1.1 v.0 v.1.0) v.1.1)
 
   changed_low : (k : Key) (b : Checkpoint) (before : List Checkpoint) (x : ℤ) → c.includes_late ≡ false → list_all fits b.read ≡ true → b.bound ≡ Some x → is_among (changed c (b ∷ before)) k ≡ true → int_lt (part k) x ≡ true
@@ -134,12 +114,12 @@ module _ (c : Meaning) (fits : Doc → Bool) (part : Key → ℤ) (floor : ℤ �
       let d = some_fit (λ d. (has_key c k d && is_from a.bound (c.sync d)) && counts c b.bound d) fits b.read
       (sym (any_and (λ d. has_key c k d && is_from a.bound (c.sync d)) (counts c b.bound) b.read)
       ∙ (sym (any_and (has_key c k) (λ d. is_from a.bound (c.sync d)) (counted c b.bound b.read)) ∙ inside)) fit in
-      let both = first (has_key c k d.0 && is_from a.bound (c.sync d.0)) (counts c b.bound d.0) d.1.0 in
-      let v = value_of c b.bound x d.0 is (second (has_key c k d.0 && is_from a.bound (c.sync d.0)) (counts c b.bound d.0) d.1.0) in
-      let has_it = first (has_key c k d.0) (is_from a.bound (c.sync d.0)) both in
-      let above = second (has_key c k d.0) (is_from a.bound (c.sync d.0)) both in
+      let both = and_first (has_key c k d.0 && is_from a.bound (c.sync d.0)) (counts c b.bound d.0) d.1.0 in
+      let v = value_of c b.bound x d.0 is (and_second (has_key c k d.0 && is_from a.bound (c.sync d.0)) (counts c b.bound d.0) d.1.0) in
+      let has_it = and_first (has_key c k d.0) (is_from a.bound (c.sync d.0)) both in
+      let above = and_second (has_key c k d.0) (is_from a.bound (c.sync d.0)) both in
       let over : int_le y v.0 ≡ true = ap (λ o. is_from o (Some v.0)) (sym low) ∙ (ap (λ o. is_from a.bound o) (sym v.1.0) ∙ above) in
-      subst (λ z. y ≤ℤ z) (aligned.of_key k d.0 d.1.1 has_it v.0 v.1.0) (same v.0 (not_less v.0 y over))
+      subst (λ z. y ≤ℤ z) (aligned.of_key k d.0 d.1.1 has_it v.0 v.1.0) (same v.0 (at_most_from v.0 y over))
 
   never : (k : Key) (y : ℤ) (checkpoints : List Checkpoint) → c.includes_late ≡ false → AllFit fits checkpoints → y ≤ℤ part k → IsRising floor y checkpoints → IsNeverChanged c checkpoints k
   never k y [] ignores fit e h = tt

@@ -15,7 +15,7 @@ use Rattle.tf_history.specs.Legality.{IsLegal, IsAscending}
 use Rattle.tf_history.proofs.Lists.{any_filter}
 use Rattle.tf_history.proofs.Keys.{ascending-all_keys, is_among-all_keys}
 use Rattle.tf_history.proofs.Rows.{keys_in, row_at_keep, ascending_keep, ascending_made, row_at_made, same_rows}
-use Rattle.tf_history.proofs.Counting.{keyed, row_if_any-same, same_between, below_risen, from_neither}
+use Rattle.tf_history.proofs.Counting.{keyed, row_if_any-same, same_counted}
 use Rattle.tf_history.specs.Laws.{IsSound, FinishedIsScratch, RowsWhenIdle, RowsWhenRunning}
 use Rattle.tf_history.proofs.Acts.{may_act, act_writes, documents_act}
 use Rattle.tf_history.specs.Acts.{MayAct}
@@ -70,39 +70,20 @@ no_more true n e = absurd (omega arith)
 no_more false n e = (refl, e)
 
 -- ---- a Begin
+pub window_is : (c : Meaning) (b a : Checkpoint) (before : List Checkpoint) → c.includes_late ≡ false → window c (b ∷ a ∷ before) ≡ from_bound c a.bound (counted c b.bound b.read)
+window_is c b a before ignores =
+    ap (λ t. cond t (from_bound c a.bound (counted c b.bound a.read) ++ counted c b.bound (drop (length a.read) b.read)) (from_bound c a.bound (counted c b.bound b.read))) ignores
+
 begun_complete : (c : Meaning) (b : Checkpoint) (checkpoints : List Checkpoint) → c.includes_late ≡ false → HasBound checkpoints → (y : ℤ) → b.bound ≡ Some (risen (last_bound checkpoints) y) → IsComplete c checkpoints b.read → IsComplete c (b ∷ checkpoints) b.read
 begun_complete c b [] ignores bounded y next h k = ap (λ t. cond t (row_of c (counted c b.bound b.read) k) None) (is_among-all_keys c k (counted c b.bound b.read))
 begun_complete c b (a ∷ before) ignores bounded y next h k =
     ap (λ o. cond (is_among (changed c (b ∷ a ∷ before)) k) (row_of c (counted c b.bound b.read) k) o) (h k)
     ∙ by_change (is_among (changed c (b ∷ a ∷ before)) k) refl
   where
-    window_is : window c (b ∷ a ∷ before) ≡ from_bound c a.bound (counted c b.bound b.read)
-    window_is = ap (λ t. cond t (from_bound c a.bound (counted c b.bound a.read) ++ counted c b.bound (drop (length a.read) b.read)) (from_bound c a.bound (counted c b.bound b.read))) ignores
-
-    stronger : (d : Doc) → is_below a.bound (c.sync d) ≡ true → is_below b.bound (c.sync d) ≡ true
-    stronger d e =
-        let rise : b.bound ≡ Some (risen (Some bounded.0) y) = next ∙ ap (λ o. Some (risen o y)) bounded.1 in
-        let low : is_below (Some bounded.0) (c.sync d) ≡ true = ap (λ o. is_below o (c.sync d)) (sym bounded.1) ∙ e in
-        ap (λ o. is_below o (c.sync d)) rise ∙ below_risen (c.sync d) bounded.0 y low
-
-    both : (m p q : Bool) → (q ≡ true → p ≡ true) → (m && q) ≡ true → (m && p) ≡ true
-    both true p q f e = f e
-    both false p q f e = e
-
-    between : (d : Doc) → is_from a.bound (c.sync d) ≡ false → counts c a.bound d ≡ counts c b.bound d
-    between d e =
-        let rise : b.bound ≡ Some (risen (Some bounded.0) y) = next ∙ ap (λ o. Some (risen o y)) bounded.1 in
-        let low : is_from (Some bounded.0) (c.sync d) ≡ false = ap (λ o. is_from o (c.sync d)) (sym bounded.1) ∙ e in
-        ap (λ t. c.matches d && t)
-        (ap (λ o. is_below o (c.sync d)) bounded.1 ∙ (from_neither (c.sync d) bounded.0 y low ∙ ap (λ o. is_below o (c.sync d)) (sym rise)))
-
     by_change : (t : Bool) → is_among (changed c (b ∷ a ∷ before)) k ≡ t → cond t (row_of c (counted c b.bound b.read) k) (row_if_any c (counted c a.bound b.read) k) ≡ row_if_any c (counted c b.bound b.read) k
-    by_change true e = ap (λ t. cond t (row_of c (counted c b.bound b.read) k) None) (sym (any_filter (has_key c k) (λ d. is_from a.bound (c.sync d)) (counted c b.bound b.read) (sym (ap (list_any (has_key c k)) window_is) ∙ (sym (is_among-all_keys c k (window c (b ∷ a ∷ before))) ∙ e))))
+    by_change true e = ap (λ t. cond t (row_of c (counted c b.bound b.read) k) None) (sym (any_filter (has_key c k) (λ d. is_from a.bound (c.sync d)) (counted c b.bound b.read) (sym (ap (list_any (has_key c k)) (window_is c b a before ignores)) ∙ (sym (is_among-all_keys c k (window c (b ∷ a ∷ before))) ∙ e))))
     by_change false e = sym (row_if_any-same c k (counted c b.bound b.read) (counted c a.bound b.read)
-        (same_between (counts c b.bound) (counts c a.bound) (λ d. is_from a.bound (c.sync d)) (has_key c k)
-        (λ d. both (c.matches d) (is_below b.bound (c.sync d)) (is_below a.bound (c.sync d)) (stronger d))
-        between
-        b.read (sym (ap (list_any (has_key c k)) window_is) ∙ (sym (is_among-all_keys c k (window c (b ∷ a ∷ before))) ∙ e))))
+        (same_counted c k a.bound b.bound bounded.0 y bounded.1 next b.read (sym (ap (list_any (has_key c k)) (window_is c b a before ignores)) ∙ (sym (is_among-all_keys c k (window c (b ∷ a ∷ before))) ∙ e))))
 
 pub continuous_next : (c : Meaning) (o : Option ℤ) (moment : ℤ) → c.is_batch ≡ false → next_bound c o moment ≡ Some (risen o (c.aligned moment))
 continuous_next c o moment e = ap (λ b. cond b None (Some (risen o (c.aligned moment)))) e

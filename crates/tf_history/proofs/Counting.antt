@@ -1,12 +1,12 @@
 -- Facts on counted documents, bounds and cutoffs.
-use Rattle.std.proofs.Common.{◌≡◌, ℤ, Bool, true, false, cond, not, ◌||◌, List, [], ◌∷◌, Option, Some, None, arith, refl, sym, ap, ◌∙◌}
+use Rattle.std.proofs.Common.{◌≡◌, ℤ, Bool, true, false, cond, not, ◌&&◌, ◌||◌, List, [], ◌∷◌, Option, Some, None, arith, refl, sym, ap, ◌∙◌}
 use Rattle.std.specs.Prelude.{int_lt, int_le, option_map, ◌-ℤ◌}
 use Rattle.std.proofs.lemmas.Option.{same_Some}
 use Rattle.std.specs.List.{list_any, filter}
 use Rattle.std.specs.Int.{int_max}
 use Rattle.std.proofs.lemmas.Int.{ints}
 use Rattle.tf_history.specs.Meaning.Content.{Values, Named}
-use Rattle.tf_history.specs.Grouping.{has_key, is_below, is_from, row_of, stays, row_if_any, keep}
+use Rattle.tf_history.specs.Grouping.{has_key, is_below, is_from, counts, counted, from_bound, row_of, stays, row_if_any, keep}
 use Rattle.tf_history.specs.Lives.{Checkpoint, cutoff}
 use Rattle.tf_model.specs.Bounds.{risen, cutoff_by}
 use Rattle.tf_history.proofs.Lists.{any_same}
@@ -32,7 +32,7 @@ row_if_any-same c k xs ys e =
     ∙ ap (λ docs. cond (list_any (has_key c k) ys) (option_map (row_from k) (c.content docs)) None) e
 
 -- a filter by p and one by the stronger q keep the same of what has the test, where nothing that has it passes both p and w, and w is what is between
-pub same_between : {X : Type 0} (p q w has_it : X → Bool) → ((x : X) → q x ≡ true → p x ≡ true) → ((x : X) → w x ≡ false → q x ≡ p x) → (xs : List X) → list_any has_it (filter w (filter p xs)) ≡ false → filter has_it (filter p xs) ≡ filter has_it (filter q xs)
+same_between : {X : Type 0} (p q w has_it : X → Bool) → ((x : X) → q x ≡ true → p x ≡ true) → ((x : X) → w x ≡ false → q x ≡ p x) → (xs : List X) → list_any has_it (filter w (filter p xs)) ≡ false → filter has_it (filter p xs) ≡ filter has_it (filter q xs)
 same_between p q w has_it stronger between [] e = refl
 same_between p q w has_it stronger between (x ∷ xs) e =
     elim (p x) as (λ b. p x ≡ b → list_any has_it (filter w (cond b (x ∷ filter p xs) (filter p xs))) ≡ false → filter has_it (cond b (x ∷ filter p xs) (filter p xs)) ≡ filter has_it (cond (q x) (x ∷ filter q xs) (filter q xs))) [
@@ -71,9 +71,24 @@ low_below : (v x : ℤ) → int_le x v ≡ false → int_lt v x ≡ true
 low_below v x e = grind (arith, ints)
 
 -- what is not at or above a bound is below both it and a risen one, or below neither
-pub from_neither : (value : Option ℤ) (x y : ℤ) → is_from (Some x) value ≡ false → is_below (Some x) value ≡ is_below (Some (risen (Some x) y)) value
+from_neither : (value : Option ℤ) (x y : ℤ) → is_from (Some x) value ≡ false → is_below (Some x) value ≡ is_below (Some (risen (Some x) y)) value
 from_neither None x y e = refl
 from_neither (Some v) x y e = let low = low_below v x e in low ∙ sym (below_max v x y low)
+
+-- the documents with a key that count below a risen bound are those below the earlier bound, where none of them is at or above it
+pub same_counted : (c : Meaning) (k : Key) (a b : Option ℤ) (x y : ℤ) → a ≡ Some x → b ≡ Some (risen a y) → (docs : List Doc)
+    → list_any (has_key c k) (from_bound c a (counted c b docs)) ≡ false → filter (has_key c k) (counted c b docs) ≡ filter (has_key c k) (counted c a docs)
+same_counted c k a b x y is next docs none =
+    same_between (counts c b) (counts c a) (λ d. is_from a (c.sync d)) (has_key c k) (λ d. stronger (c.matches d) (c.sync d)) between docs none
+  where
+    stronger : (m : Bool) (v : Option ℤ) → (m && is_below a v) ≡ true → (m && is_below b v) ≡ true
+    stronger true v e = ap (λ o. is_below o v) (next ∙ ap (λ o. Some (risen o y)) is) ∙ below_risen v x y (ap (λ o. is_below o v) (sym is) ∙ e)
+    stronger false v e = e
+
+    between : (d : Doc) → is_from a (c.sync d) ≡ false → counts c a d ≡ counts c b d
+    between d e =
+        let low : is_from (Some x) (c.sync d) ≡ false = ap (λ o. is_from o (c.sync d)) (sym is) ∙ e in
+        ap (λ t. c.matches d && t) (ap (λ o. is_below o (c.sync d)) is ∙ (from_neither (c.sync d) x y low ∙ ap (λ o. is_below o (c.sync d)) (sym (next ∙ ap (λ o. Some (risen o y)) is))))
 
 kept_once : (p q : Row → Bool) → ((r : Row) → q r ≡ true → p r ≡ true) → (o : Option Row) → keep q (keep p o) ≡ keep q o
 kept_once p q stronger None = refl

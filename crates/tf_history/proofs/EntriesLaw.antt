@@ -23,6 +23,7 @@ use Rattle.tf_history.specs.Reading.{event_of, events}
 use Rattle.tf_history.specs.LegalEntries.{LegalEntriesAreLegal}
 use Rattle.tf_history.specs.Entries.{LivesAreConfigured, LivesAreSteady, IsGroupedBy, EntriesAreGrouped}
 use Rattle.tf_history.proofs.Ids.{same_id}
+use Rattle.tf_history.proofs.Lists.{prefix}
 use Rattle.tf_history.proofs.HistoriesLaw.{grouped_here, pages_right}
 use Rattle.tf_history.proofs.SteadyLaw.{configured_is_steady}
 use Rattle.tf_history.proofs.MeaningLaw.{meanings_agree}
@@ -146,9 +147,6 @@ legal_before values_of (e ∷ later) past h = legal_before values_of later past 
 right_before : (values_of : ValuesOf) (m : ℕ) (later past : List Entry) → AllRight m (events values_of (later ++ past)) → AllRight m (events values_of past)
 right_before values_of m [] past h = h
 right_before values_of m (e ∷ later) past h = right_before values_of m later past h.0
-
-prefix : (k : ℕ) (history : List Entry) → reverse history ≡ reverse (drop k history) ++ reverse (take k history)
-prefix k history = ap reverse (sym (take-append-drop k history)) ∙ reverse-append (take k history) (drop k history)
 
 -- ---- the grouping
 some_is : (o : Option SyncTime) → is_some o ≡ true → is_none o ≡ false

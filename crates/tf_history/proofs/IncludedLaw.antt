@@ -14,7 +14,7 @@ use Rattle.tf_history.specs.Legality.{IsRight}
 use Rattle.tf_history.specs.Laws.{IsSteady, IncludedIsScratch}
 use Rattle.tf_history.proofs.Lists.{any_filter, any-append, filter_none}
 use Rattle.tf_history.proofs.Keys.{is_among-all_keys}
-use Rattle.tf_history.proofs.Counting.{row_if_any-same, same_between, below_risen, from_neither, keep_same}
+use Rattle.tf_history.proofs.Counting.{row_if_any-same, same_counted, keep_same}
 use Rattle.tf_history.proofs.CompleteLaw.{HasBound, LifeComplete, step, continuous_next, rows_when_idle, is_scratch, held}
 use Rattle.tf_history.proofs.ReadsLaw.{AllBegin, ReadsHold, kept as reads_kept}
 use Rattle.tf_history.proofs.Induction.{IsKept, holds, right_known}
@@ -34,9 +34,6 @@ begun_own c b (a ∷ before) includes bounded y next reads h = λ k.
     ap (λ o. cond (is_among (changed c (b ∷ a ∷ before)) k) (row_of c (counted c b.bound b.read) k) o) (h k)
     ∙ by_change k (is_among (changed c (b ∷ a ∷ before)) k) refl
   where
-    rest : List Doc
-    rest = reads.0.0
-
     counted_parts : counted c b.bound b.read ≡ counted c b.bound a.read ++ counted c b.bound reads.0.0
     counted_parts = ap (counted c b.bound) reads.0.1 ∙ filter-append (counts c b.bound) a.read reads.0.0
 
@@ -44,23 +41,6 @@ begun_own c b (a ∷ before) includes bounded y next reads h = λ k.
     window_is =
         ap (λ t. cond t (from_bound c a.bound (counted c b.bound a.read) ++ counted c b.bound (drop (length a.read) b.read)) (from_bound c a.bound (counted c b.bound b.read))) includes
         ∙ ap (λ ds. from_bound c a.bound (counted c b.bound a.read) ++ counted c b.bound ds) (ap (drop (length a.read)) reads.0.1 ∙ drop_at a.read reads.0.0 (length a.read) refl)
-
-    stronger : (d : Doc) → is_below a.bound (c.sync d) ≡ true → is_below b.bound (c.sync d) ≡ true
-    stronger d e =
-        let rise : b.bound ≡ Some (risen (Some bounded.0) y) = next ∙ ap (λ o. Some (risen o y)) bounded.1 in
-        let low : is_below (Some bounded.0) (c.sync d) ≡ true = ap (λ o. is_below o (c.sync d)) (sym bounded.1) ∙ e in
-        ap (λ o. is_below o (c.sync d)) rise ∙ below_risen (c.sync d) bounded.0 y low
-
-    both : (m p q : Bool) → (q ≡ true → p ≡ true) → (m && q) ≡ true → (m && p) ≡ true
-    both true p q f e = f e
-    both false p q f e = e
-
-    between : (d : Doc) → is_from a.bound (c.sync d) ≡ false → counts c a.bound d ≡ counts c b.bound d
-    between d e =
-        let rise : b.bound ≡ Some (risen (Some bounded.0) y) = next ∙ ap (λ o. Some (risen o y)) bounded.1 in
-        let low : is_from (Some bounded.0) (c.sync d) ≡ false = ap (λ o. is_from o (c.sync d)) (sym bounded.1) ∙ e in
-        ap (λ t. c.matches d && t)
-        (ap (λ o. is_below o (c.sync d)) bounded.1 ∙ (from_neither (c.sync d) bounded.0 y low ∙ ap (λ o. is_below o (c.sync d)) (sym rise)))
 
     parts : (k : Key) → is_among (changed c (b ∷ a ∷ before)) k ≡ (list_any (has_key c k) (from_bound c a.bound (counted c b.bound a.read)) || list_any (has_key c k) (counted c b.bound reads.0.0))
     parts k = is_among-all_keys c k (window c (b ∷ a ∷ before)) ∙ (ap (list_any (has_key c k)) window_is ∙ any-append (has_key c k) (from_bound c a.bound (counted c b.bound a.read)) (counted c b.bound reads.0.0))
@@ -84,10 +64,7 @@ begun_own c b (a ∷ before) includes bounded y next reads h = λ k.
     by_change k false e =
         let none = neither (list_any (has_key c k) (from_bound c a.bound (counted c b.bound a.read))) (list_any (has_key c k) (counted c b.bound reads.0.0)) (sym (parts k) ∙ e) in
         let same : filter (has_key c k) (counted c b.bound a.read) ≡ filter (has_key c k) (counted c a.bound a.read) =
-        same_between (counts c b.bound) (counts c a.bound) (λ d. is_from a.bound (c.sync d)) (has_key c k)
-        (λ d. both (c.matches d) (is_below b.bound (c.sync d)) (is_below a.bound (c.sync d)) (stronger d))
-        between
-        a.read none.0 in
+        same_counted c k a.bound b.bound bounded.0 y bounded.1 next a.read none.0 in
         sym (row_if_any-same c k (counted c b.bound b.read) (counted c a.bound a.read)
         (ap (filter (has_key c k)) counted_parts ∙ (filter-append (has_key c k) (counted c b.bound a.read) (counted c b.bound reads.0.0)
         ∙ (ap (λ ds. filter (has_key c k) (counted c b.bound a.read) ++ ds) (filter_none (has_key c k) (counted c b.bound reads.0.0) none.1) ∙ (append-nil _ ∙ same)))))

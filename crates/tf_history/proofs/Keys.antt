@@ -200,10 +200,6 @@ is_among-filter p k (j ∷ keys) =
     there e true rest = ap (λ c. c || is_among (filter p keys) k) e ∙ rest
     there e false rest = rest
 
-among_below : (k j : Key) (keys : List Key) → key_cmp k j ≡ Less → IsBelowAll j keys → is_among keys k ≡ false
-among_below k j [] l h = refl
-among_below k j (i ∷ keys) l h = ap (λ o. is_eq o || is_among keys k) (keys_total.trans k j i l h.0) ∙ among_below k j keys l h.1
-
 pub among_below_all : (k : Key) (keys : List Key) → IsBelowAll k keys → is_among keys k ≡ false
 among_below_all k [] h = refl
 among_below_all k (i ∷ keys) h = ap (λ o. is_eq o || is_among keys k) h.0 ∙ among_below_all k keys h.1

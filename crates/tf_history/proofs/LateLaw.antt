@@ -7,6 +7,7 @@ use Rattle.tf_history.specs.Events.{Event}
 use Rattle.tf_history.specs.Lives.{Checkpoint, Life, last_bound, next_bound, is_under, is_late}
 use Rattle.tf_model.specs.Bounds.{risen}
 use Rattle.tf_history.specs.Laws.{LastBoundDecides, LateAreFew}
+use Rattle.tf_history.proofs.Lists.{or_false}
 use Rattle.tf_history.proofs.Counting.{below_risen}
 use Rattle.tf_history.proofs.CompleteLaw.{continuous_next}
 use Rattle.tf_history.proofs.Induction.{IsKept, holds, legal_known}
@@ -22,10 +23,6 @@ or_weaker : (a b : Bool) → (b ≡ true → a ≡ true) → (a || b) ≡ a
 or_weaker true b h = refl
 or_weaker false true h = sym (h refl)
 or_weaker false false h = refl
-
-or_false : (a : Bool) → (a || false) ≡ a
-or_false true = refl
-or_false false = refl
 
 under_later : (o : Option ℤ) (y : ℤ) (v : Option ℤ) → is_under o v ≡ true → is_under (Some (risen o y)) v ≡ true
 under_later None y v e = absurd (let z : false ≡ true = e in cc)

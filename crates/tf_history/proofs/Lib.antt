@@ -20,6 +20,6 @@ pub mod EntriesLaw
 pub mod LateLaw
 pub mod MeaningLaw
 mod Example
-mod Floors
+mod Numbers
 pub mod OnceLaw
 pub mod StampedLaw

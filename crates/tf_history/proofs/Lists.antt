@@ -1,6 +1,15 @@
 -- Facts on tests and filters of lists.
-use Rattle.std.proofs.Common.{◌≡◌, Bool, true, false, cond, ◌||◌, List, [], ◌∷◌, ◌++◌, refl, sym, ap, ◌∙◌}
+use Rattle.std.proofs.Common.{◌≡◌, ℕ, take, drop, reverse, Bool, true, false, cond, ◌&&◌, ◌||◌, List, [], ◌∷◌, ◌++◌, refl, sym, ap, ◌∙◌}
 use Rattle.std.specs.List.{list_any, filter}
+use Rattle.std.proofs.lemmas.List.{reverse-append, take-append-drop}
+
+pub and_first : (p q : Bool) → (p && q) ≡ true → p ≡ true
+and_first true q e = refl
+and_first false q e = e
+
+pub and_second : (p q : Bool) → (p && q) ≡ true → q ≡ true
+and_second true q e = e
+and_second false q e = absurd (let z : false ≡ true = e in cc)
 
 pub or_swap : (a b c : Bool) → (a || (b || c)) ≡ (b || (a || c))
 or_swap true true c = refl
@@ -65,3 +74,7 @@ any_filter p q (x ∷ xs) e =
       | true ↦ λ f. elim (p x) as (λ b. (b || list_any p (filter q xs)) ≡ true → (b || list_any p xs) ≡ true) [ true ↦ λ g. refl | false ↦ λ g. any_filter p q xs g ] f
       | false ↦ λ f. elim (p x) as (λ b. (b || list_any p xs) ≡ true) [ true ↦ refl | false ↦ any_filter p q xs f ]
     ] e
+
+-- a list ends with its front, newest first
+pub prefix : {X : Type 0} (k : ℕ) (xs : List X) → reverse xs ≡ reverse (drop k xs) ++ reverse (take k xs)
+prefix k xs = ap reverse (sym (take-append-drop k xs)) ∙ reverse-append (take k xs) (drop k xs)

@@ -12,6 +12,7 @@ use Rattle.tf_model.specs.Changed.{is_after}
 use Rattle.tf_model.specs.declared.task.State.TheVariants.{Stopped, Started, Indexing, Stopping, Failed}
 use Rattle.tf_history.specs.Legality.{IsBelowAll, IsAscending, IsRunning, MayBegin, MayPage, MayFail, MayFinish, IsRight, IsAllowed, is_active, is_started, is_due, may_stop, to_do, next_page, row_now, sum_now, told, failing, move_of, page_move, fail_move, begin_move}
 use Rattle.tf_history.specs.Histories.{IsRightEvent, MovesAreLegal}
+use Rattle.tf_history.proofs.Lists.{and_first, and_second}
 use Rattle.tf_history.proofs.Keys.{ascending-all_keys, ascending_filter}
 use Rattle.tf_history.proofs.Rows.{keys_in, keys_from}
 use Rattle.tf_history.proofs.Counting.{keyed}
@@ -102,10 +103,6 @@ running_from : (finished begun : ℕ) → nat_lt finished begun ≡ true → IsC
 running_from finished begun e (inl h) = absurd (let z : finished < begun = ltb-true finished begun e in omega arith)
 running_from finished begun e (inr h) = h
 
-both : (a b : Bool) → (a && b) ≡ true → (a ≡ true) × (b ≡ true)
-both true b e = (refl, e)
-both false b e = absurd (let z : false ≡ true = e in cc)
-
 started_idle : (state : State) (finished begun : ℕ) → is_started state ≡ true → StartedIdle state finished begun → (state ≡ Started) × (finished ≡ begun)
 started_idle Started finished begun e h = (refl, h)
 started_idle Stopped finished begun e h = absurd (let z : false ≡ true = e in cc)
@@ -190,12 +187,10 @@ chain : (past : List Event) (t : List ℕ) (moment : ℤ) (deed : Deed) (l : Lif
     → cond a (Some (StoppedDeed t)) (cond b (Some (begin_move t l moment)) (cond c (page_move t l (failing l) (next_page l)) None)) ≡ Some deed → IsFine moment past deed
 chain past t moment deed l is size h true b c p q r e = subst (IsFine moment past) (same_Some (StoppedDeed t) deed e) (subst (λ o. IsSomeAnd o (λ m. may_stop m.state m ≡ true)) (sym is) p, tt)
 chain past t moment deed l is size h false true c p q r e =
-    let parts = both (is_started l.state) (is_due l (documents past) moment) q in
-    let state = started_idle l.state l.finished (length l.checkpoints) parts.0 h.started in
-    subst (IsFine moment past) (same_Some (begin_move t l moment) deed e) (begin_fine past t moment l is state.0 state.1 parts.1)
+    let state = started_idle l.state l.finished (length l.checkpoints) (and_first (is_started l.state) (is_due l (documents past) moment) q) h.started in
+    subst (IsFine moment past) (same_Some (begin_move t l moment) deed e) (begin_fine past t moment l is state.0 state.1 (and_second (is_started l.state) (is_due l (documents past) moment) q))
 chain past t moment deed l is size h false false true p q r e =
-    let parts = both (is_running l) (is_active l.state) r in
-    page_fine past t moment l deed is size (refl, running_from l.finished (length l.checkpoints) parts.0 h.count) parts.1 (failing l) (next_page l) refl refl e
+    page_fine past t moment l deed is size (refl, running_from l.finished (length l.checkpoints) (and_first (is_running l) (is_active l.state) r) h.count) (and_second (is_running l) (is_active l.state) r) (failing l) (next_page l) refl refl e
 chain past t moment deed l is size h false false false p q r e = absurd (let z : ◌≡◌ {A = Option Deed} None (Some deed) = e in cc)
 
 moved : (past : List Event) (t : List ℕ) (moment : ℤ) (deed : Deed) (o : Option Life) → life t past ≡ o → IfSome o (λ l. 0 < l.meaning.page_size) → IfSome o (CountHold past) → option_and_then (λ l. move_of t l (documents past) moment) o ≡ Some deed → IsFine moment past deed

@@ -32,7 +32,7 @@ use Rattle.tf_history.specs.Laws.{IsAligned, AreApart}
 use Rattle.tf_history.specs.ConfiguredLaws.{is_not_early, AlignedKeysAppearOnce}
 use Rattle.tf_history.specs.Lives.{Life}
 use Rattle.tf_history.proofs.Lists.{or_false}
-use Rattle.tf_history.proofs.Floors.{floor_below, floor_least}
+use Rattle.tf_history.proofs.Numbers.{max_at_most, at_most_from, floor_below, floor_least}
 use Rattle.tf_history.proofs.AlignedLaw.{aligned_is_apart}
 use Rattle.tf_history.proofs.EntriesLaw.{same_meaning}
 
@@ -127,9 +127,6 @@ no_step : (align : Bool) (s : Shape) (step : ℤ) → step_by align None s ≡ S
 no_step true s step e = let z : ◌≡◌ {A = Option ℤ} None (Some step) = e in cc
 no_step false s step e = let z : ◌≡◌ {A = Option ℤ} None (Some step) = e in cc
 
-max_at_most : (x y z : ℤ) → int_le x z ≡ true → y ≤ℤ z → int_max x y ≤ℤ z
-max_at_most x y z e f = grind (arith, ints)
-
 at_most_max : (x y z : ℤ) → x ≤ℤ z → x ≤ℤ int_max y z
 at_most_max x y z e = grind (arith, ints)
 
@@ -152,7 +149,7 @@ configured_is_aligned : (sources : List ℕ) (c : Config) (step : ℤ) → align
 unfolding keys_of key_of
 configured_is_aligned sources c step e some = record {
   of_key = λ k d fit has_it v found. of_key_by c.align c.sync c.shape step v k d e has_it found;
-  below = λ d fit v found. max_at_most least_date (floor_to v step) v (ap is_not_early (sym found) ∙ fit) (floor_below v step);
+  below = λ d fit v found. max_at_most least_date (floor_to v step) v (at_most_from v least_date (ap is_not_early (sym found) ∙ fit)) (floor_below v step);
   bounds = λ moment v below. bounds_by c step moment v e some c.sync refl below;
 }
 

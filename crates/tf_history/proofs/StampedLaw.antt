@@ -28,7 +28,8 @@ use Rattle.tf_history.specs.Laws.{IsStamped}
 use Rattle.tf_history.specs.Reading.{deed_of, events}
 use Rattle.tf_history.specs.LegalEntries.{Reading, MayWrite, FitsKind, IsLegalPast}
 use Rattle.tf_history.specs.ConfiguredLaws.{is_stamp, has_stamp, ReadsStamps, StampedSourcesAreNeverLate}
-use Rattle.tf_history.proofs.Floors.{floor_below}
+use Rattle.tf_history.proofs.Lists.{and_first, and_second}
+use Rattle.tf_history.proofs.Numbers.{floor_below}
 use Rattle.tf_history.proofs.StampsLaw.{stamped_is_never_late}
 use Rattle.tf_history.proofs.EntriesLaw.{legal_entries_are_legal, same_meaning}
 
@@ -51,14 +52,6 @@ still_there [] ys i x e = absurd (let z : ◌≡◌ {A = Option _} None (Some x)
 still_there (y ∷ xs) ys zero x e = e
 still_there (y ∷ xs) ys (suc i) x e = still_there xs ys i x e
 
-second : (p q : Bool) → (p && q) ≡ true → q ≡ true
-second true q f = f
-second false q f = absurd (let z : false ≡ true = f in cc)
-
-first : (p q : Bool) → (p && q) ≡ true → p ≡ true
-first true q f = refl
-first false q f = f
-
 same_number : (i j : ℕ) → nat_eq i j ≡ true → i ≡ j
 same_number i j e = grind (arith, ints)
 
@@ -66,8 +59,8 @@ one_of_all : (p : ℕ → Bool) (i : ℕ) (xs : List ℕ) → list_any (nat_eq i
 one_of_all p i [] e f = absurd (let z : false ≡ true = e in cc)
 one_of_all p i (x ∷ xs) e f =
     elim (nat_eq i x) as (λ b. nat_eq i x ≡ b → (b || list_any (nat_eq i) xs) ≡ true → p i ≡ true) [
-      | true ↦ λ s g. ap p (same_number i x s) ∙ first (p x) (list_all p xs) f
-      | false ↦ λ s g. one_of_all p i xs g (second (p x) (list_all p xs) f)
+      | true ↦ λ s g. ap p (same_number i x s) ∙ and_first (p x) (list_all p xs) f
+      | false ↦ λ s g. one_of_all p i xs g (and_second (p x) (list_all p xs) f)
     ] refl e
 
 stamp_is : (field : List ℕ) (o : Option (List ℕ)) → is_stamp field o ≡ true → o ≡ Some field

@@ -8,6 +8,7 @@ use Rattle.tf_history.specs.Lives.{Checkpoint, Life, last_bound, next_bound, is_
 use Rattle.tf_model.specs.Bounds.{risen}
 use Rattle.tf_history.specs.Legality.{IsNotBefore}
 use Rattle.tf_history.specs.Laws.{IsStamped, StampedIsNeverLate}
+use Rattle.tf_history.proofs.Numbers.{int_trans, max_at_most}
 use Rattle.tf_history.proofs.Induction.{IsKept, holds, legal_known}
 use Rattle.tf_history.specs.Events.{Event}
 use Rattle.tf_history.specs.Meaning.{Meaning}
@@ -20,12 +21,6 @@ IsAtMost (Some x) moment = x ≤ℤ moment
 abbrev AllAtMost : List Checkpoint → ℤ → Type 0
 AllAtMost [] moment = ⊤
 AllAtMost (b ∷ before) moment = IsAtMost b.bound moment × AllAtMost before moment
-
-int_trans : (x y z : ℤ) → x ≤ℤ y → y ≤ℤ z → x ≤ℤ z
-int_trans x y z e f = grind (arith, ints)
-
-max_at_most : (x y z : ℤ) → x ≤ℤ z → y ≤ℤ z → int_max x y ≤ℤ z
-max_at_most x y z e f = grind (arith, ints)
 
 not_under : (x y : ℤ) → x ≤ℤ y → int_lt y x ≡ false
 not_under x y e = grind (arith, ints)

@@ -1,9 +1,20 @@
--- The greatest multiple of a step that is at most a number.
+-- Facts on whole numbers, and on the greatest multiple of a step that is at most a number.
 use Rattle.std.proofs.Common.{◌≡◌, ℕ, ℤ, pos, negsuc, ◌-ℤ◌, ◌+◌, ◌-◌, ◌*◌, ◌/◌, ◌%◌, ◌<◌, ◌≤◌, suc, ◌<ℤ◌, ◌≤ℤ◌, Option, Some, None, arith, refl}
+use Rattle.std.specs.Prelude.{true, int_le}
+use Rattle.std.specs.Int.{int_max}
 use Rattle.std.proofs.lemmas.Int.{ints}
 use Rattle.std.proofs.lemmas.Nat.{div_below, le-div}
 use Rattle.std.proofs.Math.Nat.{div-add-mod, mul-le-mul_left, mul_comm, mod-le, mod-lt}
 use Rattle.tf_model.specs.Keys.{floor_to}
+
+pub int_trans : (x y z : ℤ) → x ≤ℤ y → y ≤ℤ z → x ≤ℤ z
+int_trans x y z e f = grind (arith, ints)
+
+pub max_at_most : (x y z : ℤ) → x ≤ℤ z → y ≤ℤ z → int_max x y ≤ℤ z
+max_at_most x y z e f = grind (arith, ints)
+
+pub at_most_from : (x y : ℤ) → int_le y x ≡ true → y ≤ℤ x
+at_most_from x y e = grind (arith, ints)
 
 less_by : (n : ℤ) (r : ℕ) → (n -ℤ pos r) ≤ℤ n
 less_by n r = grind (arith, ints)
