@@ -16,7 +16,8 @@ due_once batch [] rest e b = refl
 due_once true (c ∷ checkpoints) rest e b = absurd (let z : false ≡ true = e in cc)
 due_once false (c ∷ checkpoints) rest e b = absurd (let z : false ≡ true = b in cc)
 
-pub some_begin : (o : Option Life) (n : ℕ) (bound : Option ℤ) (moment : ℤ) (docs : List Doc) → IsSomeAnd o (λ l. MayBegin l docs n bound moment) → IsSomeAnd o (λ l. IsNextBegin l n bound moment)
+pub some_begin : (o : Option Life) (n : ℕ) (bound : Option ℤ) (moment : ℤ) (docs : List Doc) → IsSomeAnd o (λ l. MayBegin l docs n bound moment)
+    → IsSomeAnd o (λ l. IsNextBegin l n bound moment)
 some_begin None n bound moment docs h = h
 some_begin (Some l) n bound moment docs h = record { idle = h.idle; number = h.number; bound_is = h.bound_is; once = due_once l.meaning.is_batch l.checkpoints _ h.due }
 
@@ -24,7 +25,8 @@ chosen : (a : Act) (o : Option Life) (b : Bool) → (b ≡ true → MayAct a o) 
 chosen a o true h = h refl
 chosen a o false h = tt
 
-may : (t : List ℕ) (moment : ℤ) (deed : Deed) (past : List Event) → IsAllowed moment deed past → MayAct (act t (record { moment = moment; deed = deed })) (life t past)
+may : (t : List ℕ) (moment : ℤ) (deed : Deed) (past : List Event) → IsAllowed moment deed past
+    → MayAct (act t (record { moment = moment; deed = deed })) (life t past)
 may t moment Index past h = tt
 may t moment (Write d) past h = tt
 may t moment (Put id c) past h = chosen (Opens c) (life t past) (is_same t id) (λ e. tt)

@@ -39,7 +39,8 @@ abbrev pub AllFit : (Doc → Bool) → List Checkpoint → Type 0
 AllFit fits [] = ⊤
 AllFit fits (b ∷ before) = (list_all fits b.read ≡ true) × AllFit fits before
 
-all_fit : (fits : Doc → Bool) (checkpoints : List Checkpoint) (docs : List Doc) → AllBegin checkpoints docs → list_all fits docs ≡ true → AllFit fits checkpoints
+all_fit : (fits : Doc → Bool) (checkpoints : List Checkpoint) (docs : List Doc) → AllBegin checkpoints docs → list_all fits docs ≡ true
+    → AllFit fits checkpoints
 all_fit fits [] docs h e = tt
 all_fit fits (b ∷ before) docs h e = (fit_front fits b.read h.0.0 (ap (list_all fits) (sym h.0.1) ∙ e), all_fit fits before docs h.1 e)
 
@@ -93,21 +94,24 @@ module _ (c : Meaning) (fits : Doc → Bool) (part : Key → ℤ) (floor : ℤ �
   lower x p v f g = grind (arith, ints)
 
   -- a key of a counted document lies below the bound
-  counted_low : (k : Key) (bound : Option ℤ) (x : ℤ) (docs : List Doc) → bound ≡ Some x → list_all fits docs ≡ true → list_any (has_key c k) (counted c bound docs) ≡ true → int_lt (part k) x ≡ true
+  counted_low : (k : Key) (bound : Option ℤ) (x : ℤ) (docs : List Doc) → bound ≡ Some x → list_all fits docs ≡ true
+      → list_any (has_key c k) (counted c bound docs) ≡ true → int_lt (part k) x ≡ true
   counted_low k bound x docs is fit e =
       let d = some_fit (λ d. has_key c k d && counts c bound d) fits docs (sym (any_and (has_key c k) (counts c bound) docs) ∙ e) fit in
       let v = value_of c bound x d.0 is (and_second (has_key c k d.0) (counts c bound d.0) d.1.0) in
       subst (λ p. int_lt p x ≡ true) (aligned.of_key k d.0 d.1.1 (and_first (has_key c k d.0) (counts c bound d.0) d.1.0) v.0 v.1.0)
       (lower x (floor v.0) v.0 (aligned.below d.0 d.1.1 v.0 v.1.0) v.1.1)
 
-  changed_low : (k : Key) (b : Checkpoint) (before : List Checkpoint) (x : ℤ) → c.includes_late ≡ false → list_all fits b.read ≡ true → b.bound ≡ Some x → is_among (changed c (b ∷ before)) k ≡ true → int_lt (part k) x ≡ true
+  changed_low : (k : Key) (b : Checkpoint) (before : List Checkpoint) (x : ℤ) → c.includes_late ≡ false → list_all fits b.read ≡ true
+      → b.bound ≡ Some x → is_among (changed c (b ∷ before)) k ≡ true → int_lt (part k) x ≡ true
   changed_low k b [] x ignores fit is e = counted_low k b.bound x b.read is fit (sym (is_among-all_keys c k (counted c b.bound b.read)) ∙ e)
   changed_low k b (a ∷ before) x ignores fit is e =
       let inside : list_any (has_key c k) (from_bound c a.bound (counted c b.bound b.read)) ≡ true = ap (list_any (has_key c k)) (sym (window_is c b a before ignores)) ∙ (sym (is_among-all_keys c k (window c (b ∷ a ∷ before))) ∙ e) in
       counted_low k b.bound x b.read is fit (any_filter (has_key c k) (λ d. is_from a.bound (c.sync d)) (counted c b.bound b.read) inside)
 
   -- a document of a later window has its key at or above the bound before
-  changed_high : (k : Key) (b a : Checkpoint) (before : List Checkpoint) (x y : ℤ) → c.includes_late ≡ false → list_all fits b.read ≡ true → b.bound ≡ Some x → a.bound ≡ Some y → IsLowEnd floor y
+  changed_high : (k : Key) (b a : Checkpoint) (before : List Checkpoint) (x y : ℤ) → c.includes_late ≡ false → list_all fits b.read ≡ true
+      → b.bound ≡ Some x → a.bound ≡ Some y → IsLowEnd floor y
       → is_among (changed c (b ∷ a ∷ before)) k ≡ true → y ≤ℤ part k
   changed_high k b a before x y ignores fit is low same e =
       let inside : list_any (has_key c k) (from_bound c a.bound (counted c b.bound b.read)) ≡ true = ap (list_any (has_key c k)) (sym (window_is c b a before ignores)) ∙ (sym (is_among-all_keys c k (window c (b ∷ a ∷ before))) ∙ e) in
@@ -121,7 +125,8 @@ module _ (c : Meaning) (fits : Doc → Bool) (part : Key → ℤ) (floor : ℤ �
       let over : int_le y v.0 ≡ true = ap (λ o. is_from o (Some v.0)) (sym low) ∙ (ap (λ o. is_from a.bound o) (sym v.1.0) ∙ above) in
       subst (λ z. y ≤ℤ z) (aligned.of_key k d.0 d.1.1 has_it v.0 v.1.0) (same v.0 (at_most_from v.0 y over))
 
-  never : (k : Key) (y : ℤ) (checkpoints : List Checkpoint) → c.includes_late ≡ false → AllFit fits checkpoints → y ≤ℤ part k → IsRising floor y checkpoints → IsNeverChanged c checkpoints k
+  never : (k : Key) (y : ℤ) (checkpoints : List Checkpoint) → c.includes_late ≡ false → AllFit fits checkpoints → y ≤ℤ part k
+      → IsRising floor y checkpoints → IsNeverChanged c checkpoints k
   never k y [] ignores fit e h = tt
   never k y (b ∷ before) ignores fit e h = (
     not_true (is_among (changed c (b ∷ before)) k) (λ f. not_both (part k) h.0 (part k) (changed_low k b before h.0 ignores fit.0 h.1.0 f) (int_trans h.0 y (part k) h.1.2 e) (int_same (part k) (part k) refl)),
@@ -132,7 +137,8 @@ module _ (c : Meaning) (fits : Doc → Bool) (part : Key → ℤ) (floor : ℤ �
       not_true true f = absurd (f refl)
       not_true false f = refl
 
-  apart : (top : ℤ) (checkpoints : List Checkpoint) → c.includes_late ≡ false → AllFit fits checkpoints → IsRising floor top checkpoints → AreApart c checkpoints
+  apart : (top : ℤ) (checkpoints : List Checkpoint) → c.includes_late ≡ false → AllFit fits checkpoints → IsRising floor top checkpoints
+      → AreApart c checkpoints
   apart top [] ignores fit h = tt
   apart top (b ∷ []) ignores fit h = (λ k e. tt, tt)
   apart top (b ∷ a ∷ before) ignores fit h = (
@@ -143,7 +149,9 @@ module _ (c : Meaning) (fits : Doc → Bool) (part : Key → ℤ) (floor : ℤ �
 abbrev RisingHold : List Event → Life → Type 0
 RisingHold past l = (fits : Doc → Bool) (part : Key → ℤ) (floor : ℤ → ℤ) → IsAligned l.meaning fits part floor → l.meaning.is_batch ≡ false → (top : ℤ) × IsRising floor top l.checkpoints
 
-begun : (floor : ℤ → ℤ) (b : Checkpoint) (checkpoints : List Checkpoint) (y : ℤ) → IsLowEnd floor y → b.bound ≡ Some (risen (last_bound checkpoints) y) → (top : ℤ) → IsRising floor top checkpoints → (new : ℤ) × IsRising floor new (b ∷ checkpoints)
+begun : (floor : ℤ → ℤ) (b : Checkpoint) (checkpoints : List Checkpoint) (y : ℤ) → IsLowEnd floor y
+    → b.bound ≡ Some (risen (last_bound checkpoints) y) → (top : ℤ) → IsRising floor top checkpoints
+    → (new : ℤ) × IsRising floor new (b ∷ checkpoints)
 begun floor b [] y same next top h = (y, (y, (next, same, int_same y y refl, tt)))
 begun floor b (a ∷ before) y same next top h =
     let x = h.0 in

@@ -16,7 +16,7 @@ use Rattle.tf_history.proofs.Lists.{any_filter}
 use Rattle.tf_history.proofs.Keys.{ascending-all_keys, is_among-all_keys}
 use Rattle.tf_history.proofs.Rows.{keys_in, row_at_keep, ascending_keep, ascending_made, row_at_made, same_rows}
 use Rattle.tf_history.proofs.Counting.{keyed, row_if_any-same, same_counted}
-use Rattle.tf_history.specs.Laws.{IsSound, FinishedIsScratch, RowsWhenIdle, RowsWhenRunning}
+use Rattle.tf_history.specs.Laws.{IsSound, FinishedIsScratch, RowsAscend, RowsWhenIdle, RowsWhenRunning}
 use Rattle.tf_history.proofs.Acts.{may_act, act_writes, documents_act}
 use Rattle.tf_history.specs.Acts.{MayAct}
 use Rattle.tf_history.proofs.RowsLaw.{RowsHold, LifeRowsHold, rows_hold}
@@ -50,7 +50,8 @@ under_is_below : (bound value : Option ℤ) (x : ℤ) → bound ≡ Some x → i
 under_is_below None value x e = absurd (let z : ◌≡◌ {A = Option ℤ} None (Some x) = e in cc)
 under_is_below (Some y) value x e = refl
 
-counted_still : (c : Meaning) (b : Checkpoint) (before : List Checkpoint) (docs : List Doc) (d : Doc) (x : ℤ) → b.bound ≡ Some x → is_late c (b ∷ before) d ≡ false → counted c b.bound (from_sources c (docs ++ d ∷ [])) ≡ counted c b.bound (from_sources c docs)
+counted_still : (c : Meaning) (b : Checkpoint) (before : List Checkpoint) (docs : List Doc) (d : Doc) (x : ℤ) → b.bound ≡ Some x
+    → is_late c (b ∷ before) d ≡ false → counted c b.bound (from_sources c (docs ++ d ∷ [])) ≡ counted c b.bound (from_sources c docs)
 counted_still c b before docs d x bounded late =
     ap (λ ds. counted c b.bound ds) (filter-append (λ e. c.is_source e.index) docs (d ∷ []))
     ∙ (filter-append (counts c b.bound) (from_sources c docs) (from_sources c (d ∷ []))
@@ -60,7 +61,8 @@ counted_still c b before docs d x bounded late =
     one true e = ap (λ t. cond t (d ∷ []) []) (not_counted (c.is_source d.index) (c.matches d) (is_under b.bound (c.sync d)) _ (is_below b.bound (c.sync d)) (under_is_below b.bound (c.sync d) x bounded) late e)
     one false e = refl
 
-written_complete : (c : Meaning) (checkpoints : List Checkpoint) (docs : List Doc) (d : Doc) → HasBound checkpoints → is_late c checkpoints d ≡ false → IsComplete c checkpoints (from_sources c docs) → IsComplete c checkpoints (from_sources c (docs ++ d ∷ []))
+written_complete : (c : Meaning) (checkpoints : List Checkpoint) (docs : List Doc) (d : Doc) → HasBound checkpoints → is_late c checkpoints d ≡ false
+    → IsComplete c checkpoints (from_sources c docs) → IsComplete c checkpoints (from_sources c (docs ++ d ∷ []))
 written_complete c [] docs d bounded late h = tt
 written_complete c (b ∷ before) docs d bounded late h =
     λ k. h k ∙ ap (λ ds. row_if_any c ds k) (sym (counted_still c b before docs d bounded.0 bounded.1 late))
@@ -70,17 +72,20 @@ no_more true n e = absurd (omega arith)
 no_more false n e = (refl, e)
 
 -- ---- a Begin
-pub window_is : (c : Meaning) (b a : Checkpoint) (before : List Checkpoint) → c.includes_late ≡ false → window c (b ∷ a ∷ before) ≡ from_bound c a.bound (counted c b.bound b.read)
+pub window_is : (c : Meaning) (b a : Checkpoint) (before : List Checkpoint) → c.includes_late ≡ false
+    → window c (b ∷ a ∷ before) ≡ from_bound c a.bound (counted c b.bound b.read)
 window_is c b a before ignores =
     ap (λ t. cond t (from_bound c a.bound (counted c b.bound a.read) ++ counted c b.bound (drop (length a.read) b.read)) (from_bound c a.bound (counted c b.bound b.read))) ignores
 
-begun_complete : (c : Meaning) (b : Checkpoint) (checkpoints : List Checkpoint) → c.includes_late ≡ false → HasBound checkpoints → (y : ℤ) → b.bound ≡ Some (risen (last_bound checkpoints) y) → IsComplete c checkpoints b.read → IsComplete c (b ∷ checkpoints) b.read
+begun_complete : (c : Meaning) (b : Checkpoint) (checkpoints : List Checkpoint) → c.includes_late ≡ false → HasBound checkpoints → (y : ℤ)
+    → b.bound ≡ Some (risen (last_bound checkpoints) y) → IsComplete c checkpoints b.read → IsComplete c (b ∷ checkpoints) b.read
 begun_complete c b [] ignores bounded y next h k = ap (λ t. cond t (row_of c (counted c b.bound b.read) k) None) (is_among-all_keys c k (counted c b.bound b.read))
 begun_complete c b (a ∷ before) ignores bounded y next h k =
     ap (λ o. cond (is_among (changed c (b ∷ a ∷ before)) k) (row_of c (counted c b.bound b.read) k) o) (h k)
     ∙ by_change (is_among (changed c (b ∷ a ∷ before)) k) refl
   where
-    by_change : (t : Bool) → is_among (changed c (b ∷ a ∷ before)) k ≡ t → cond t (row_of c (counted c b.bound b.read) k) (row_if_any c (counted c a.bound b.read) k) ≡ row_if_any c (counted c b.bound b.read) k
+    by_change : (t : Bool) → is_among (changed c (b ∷ a ∷ before)) k ≡ t
+        → cond t (row_of c (counted c b.bound b.read) k) (row_if_any c (counted c a.bound b.read) k) ≡ row_if_any c (counted c b.bound b.read) k
     by_change true e = ap (λ t. cond t (row_of c (counted c b.bound b.read) k) None) (sym (any_filter (has_key c k) (λ d. is_from a.bound (c.sync d)) (counted c b.bound b.read) (sym (ap (list_any (has_key c k)) (window_is c b a before ignores)) ∙ (sym (is_among-all_keys c k (window c (b ∷ a ∷ before))) ∙ e))))
     by_change false e = sym (row_if_any-same c k (counted c b.bound b.read) (counted c a.bound b.read)
         (same_counted c k a.bound b.bound bounded.0 y bounded.1 next b.read (sym (ap (list_any (has_key c k)) (window_is c b a before ignores)) ∙ (sym (is_among-all_keys c k (window c (b ∷ a ∷ before))) ∙ e))))
@@ -92,7 +97,8 @@ continuous_next c o moment e = ap (λ b. cond b None (Some (risen o (c.aligned m
 same_documents : (l : Life) (docs now : List Doc) → now ≡ docs ++ [] → LifeComplete l docs → LifeComplete l now
 same_documents l docs now e h = subst (λ ds. LifeComplete l ds) (sym (e ∙ append-nil docs)) h
 
-pub step : (docs now : List Doc) (a : Act) (o : Option Life) → now ≡ docs ++ act_writes a → MayAct a o → IfSome o (λ l. LifeComplete l docs) → IfSome (life_after docs a o) (λ l. LifeComplete l now)
+pub step : (docs now : List Doc) (a : Act) (o : Option Life) → now ≡ docs ++ act_writes a → MayAct a o → IfSome o (λ l. LifeComplete l docs)
+    → IfSome (life_after docs a o) (λ l. LifeComplete l now)
 step docs now (Opens c) o e m h = record { bounded = λ _. tt; complete = λ _ _ _. tt }
 step docs now Reopens None e m h = tt
 step docs now Reopens (Some l) e m h = record { bounded = λ _. tt; complete = λ _ _ _. tt }
@@ -126,7 +132,8 @@ complete_hold t (e ∷ past) legal =
     step (documents past) (documents (e ∷ past)) (act t e) (life t past) (documents_act t e past) (may_act t e past legal.1) (complete_hold t past legal.0)
 
 -- ---- the grouping from scratch
-row_at-scratch : (c : Meaning) (bound cut : Option ℤ) (docs : List Doc) (k : Key) → row_at k (scratch c bound cut docs) ≡ keep (stays c docs cut) (row_if_any c (counted c bound docs) k)
+row_at-scratch : (c : Meaning) (bound cut : Option ℤ) (docs : List Doc) (k : Key)
+    → row_at k (scratch c bound cut docs) ≡ keep (stays c docs cut) (row_if_any c (counted c bound docs) k)
 row_at-scratch c bound cut docs k =
     row_at_keep (stays c docs cut) k _ (ascending_made (row_of c (counted c bound docs)) (keyed c (counted c bound docs)) (all_keys c (counted c bound docs)) (ascending-all_keys c (counted c bound docs)))
     ∙ ap (keep (stays c docs cut)) (row_at_made (row_of c (counted c bound docs)) (keyed c (counted c bound docs)) k (all_keys c (counted c bound docs)) (ascending-all_keys c (counted c bound docs))
@@ -136,17 +143,25 @@ ascending-scratch : (c : Meaning) (bound cut : Option ℤ) (docs : List Doc) →
 ascending-scratch c bound cut docs = ascending_keep (stays c docs cut) _ (ascending_made (row_of c (counted c bound docs)) (keyed c (counted c bound docs)) (all_keys c (counted c bound docs)) (ascending-all_keys c (counted c bound docs)))
 
 -- ---- the laws
-pub held : (past : List Event) (t : List ℕ) (l : Life) → IsSound past t l → RowsHold l.meaning (written l.meaning past) l.checkpoints l.finished l.position l.rows
+pub held : (past : List Event) (t : List ℕ) (l : Life) → IsSound past t l
+    → RowsHold l.meaning (written l.meaning past) l.checkpoints l.finished l.position l.rows
 held past t l sound = subst (λ o. IfSome o (LifeRowsHold (documents past))) sound.is (rows_hold t past sound.legal sound.right) sound.steady
 
-idle_each : (c : Meaning) (docs : List Doc) (checkpoints : List Checkpoint) (finished : ℕ) (position : Option Key) (rows : List Row) → finished ≡ length checkpoints → RowsHold c docs checkpoints finished position rows → (k : Key) → row_at k rows ≡ keep (stays c docs (cutoff c checkpoints)) (last_row c checkpoints k)
+idle_each : (c : Meaning) (docs : List Doc) (checkpoints : List Checkpoint) (finished : ℕ) (position : Option Key) (rows : List Row)
+    → finished ≡ length checkpoints → RowsHold c docs checkpoints finished position rows → (k : Key)
+    → row_at k rows ≡ keep (stays c docs (cutoff c checkpoints)) (last_row c checkpoints k)
 idle_each c docs [] finished position rows idle h k = elim h.phase [ inl i ↦ i.each k | inr r ↦ absurd r ]
 idle_each c docs (b ∷ before) finished position rows idle h k = elim h.phase [ inl i ↦ i.each k | inr r ↦ absurd (let z = r.count in omega arith) ]
+
+pub rows_ascend : RowsAscend
+rows_ascend past t l sound = (held past t l sound).ascending
 
 pub rows_when_idle : RowsWhenIdle
 rows_when_idle past t l sound idle k = idle_each l.meaning (written l.meaning past) l.checkpoints l.finished l.position l.rows idle (held past t l sound) k
 
-running_each : (c : Meaning) (docs : List Doc) (b : Checkpoint) (before : List Checkpoint) (finished : ℕ) (position : Option Key) (rows : List Row) → suc finished ≡ length (b ∷ before) → RowsHold c docs (b ∷ before) finished position rows → (k : Key) → row_at k rows ≡ cond (is_among (changed c (b ∷ before)) k && not (is_after position k)) (row_of c (counted c b.bound b.read) k) (keep (stays c docs (cutoff c before)) (last_row c before k))
+running_each : (c : Meaning) (docs : List Doc) (b : Checkpoint) (before : List Checkpoint) (finished : ℕ) (position : Option Key) (rows : List Row)
+    → suc finished ≡ length (b ∷ before) → RowsHold c docs (b ∷ before) finished position rows → (k : Key)
+    → row_at k rows ≡ cond (is_among (changed c (b ∷ before)) k && not (is_after position k)) (row_of c (counted c b.bound b.read) k) (keep (stays c docs (cutoff c before)) (last_row c before k))
 running_each c docs b before finished position rows count h k = elim h.phase [ inl i ↦ absurd (let z = i.count in omega arith) | inr r ↦ r.each k ]
 
 pub rows_when_running : RowsWhenRunning
@@ -154,12 +169,14 @@ rows_when_running past t l b before sound newest running k =
     running_each l.meaning (written l.meaning past) b before l.finished l.position l.rows (running ∙ ap length newest) (subst (λ (cs : List Checkpoint). RowsHold l.meaning (written l.meaning past) cs l.finished l.position l.rows) newest (held past t l sound)) k
     ∙ ap (λ (cs : List Checkpoint). cond (is_among (changed l.meaning cs) k && not (is_after l.position k)) (row_of l.meaning (counted l.meaning b.bound b.read) k) (keep (stays l.meaning (written l.meaning past) (cutoff l.meaning before)) (last_row l.meaning before k))) (sym newest)
 
-complete_each : (c : Meaning) (checkpoints : List Checkpoint) (docs : List Doc) → 0 < length checkpoints → IsComplete c checkpoints docs → (k : Key) → last_row c checkpoints k ≡ row_if_any c (counted c (last_bound checkpoints) docs) k
+complete_each : (c : Meaning) (checkpoints : List Checkpoint) (docs : List Doc) → 0 < length checkpoints → IsComplete c checkpoints docs → (k : Key)
+    → last_row c checkpoints k ≡ row_if_any c (counted c (last_bound checkpoints) docs) k
 complete_each c [] docs some h k = absurd (omega arith)
 complete_each c (b ∷ before) docs some h k = h k
 
 -- rows that ascend and have at each key what the grouping has are the grouping
-pub is_scratch : (c : Meaning) (bound cut : Option ℤ) (docs : List Doc) (rows : List Row) → IsAscending (keys_in rows) → ((k : Key) → row_at k rows ≡ keep (stays c docs cut) (row_if_any c (counted c bound docs) k)) → rows ≡ scratch c bound cut docs
+pub is_scratch : (c : Meaning) (bound cut : Option ℤ) (docs : List Doc) (rows : List Row) → IsAscending (keys_in rows)
+    → ((k : Key) → row_at k rows ≡ keep (stays c docs cut) (row_if_any c (counted c bound docs) k)) → rows ≡ scratch c bound cut docs
 is_scratch c bound cut docs rows ascending each = same_rows rows (scratch c bound cut docs) ascending (ascending-scratch c bound cut docs) (λ k. each k ∙ sym (row_at-scratch c bound cut docs k))
 
 pub finished_is_scratch : FinishedIsScratch

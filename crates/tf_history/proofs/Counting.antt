@@ -32,7 +32,8 @@ row_if_any-same c k xs ys e =
     ∙ ap (λ docs. cond (list_any (has_key c k) ys) (option_map (row_from k) (c.content docs)) None) e
 
 -- a filter by p and one by the stronger q keep the same of what has the test, where nothing that has it passes both p and w, and w is what is between
-same_between : {X : Type 0} (p q w has_it : X → Bool) → ((x : X) → q x ≡ true → p x ≡ true) → ((x : X) → w x ≡ false → q x ≡ p x) → (xs : List X) → list_any has_it (filter w (filter p xs)) ≡ false → filter has_it (filter p xs) ≡ filter has_it (filter q xs)
+same_between : {X : Type 0} (p q w has_it : X → Bool) → ((x : X) → q x ≡ true → p x ≡ true) → ((x : X) → w x ≡ false → q x ≡ p x) → (xs : List X)
+    → list_any has_it (filter w (filter p xs)) ≡ false → filter has_it (filter p xs) ≡ filter has_it (filter q xs)
 same_between p q w has_it stronger between [] e = refl
 same_between p q w has_it stronger between (x ∷ xs) e =
     elim (p x) as (λ b. p x ≡ b → list_any has_it (filter w (cond b (x ∷ filter p xs) (filter p xs))) ≡ false → filter has_it (cond b (x ∷ filter p xs) (filter p xs)) ≡ filter has_it (cond (q x) (x ∷ filter q xs) (filter q xs))) [
@@ -49,7 +50,9 @@ same_between p q w has_it stronger between (x ∷ xs) e =
     dropped true false s t = ap (λ d. cond d (x ∷ filter has_it (filter q xs)) (filter has_it (filter q xs))) s
     dropped false h s t = refl
 
-    inside : p x ≡ true → (b : Bool) → w x ≡ b → list_any has_it (cond b (x ∷ filter w (filter p xs)) (filter w (filter p xs))) ≡ false → (list_any has_it (filter w (filter p xs)) ≡ false → filter has_it (filter p xs) ≡ filter has_it (filter q xs)) → cond (has_it x) (x ∷ filter has_it (filter p xs)) (filter has_it (filter p xs)) ≡ filter has_it (cond (q x) (x ∷ filter q xs) (filter q xs))
+    inside : p x ≡ true → (b : Bool) → w x ≡ b → list_any has_it (cond b (x ∷ filter w (filter p xs)) (filter w (filter p xs))) ≡ false
+        → (list_any has_it (filter w (filter p xs)) ≡ false → filter has_it (filter p xs) ≡ filter has_it (filter q xs))
+        → cond (has_it x) (x ∷ filter has_it (filter p xs)) (filter has_it (filter p xs)) ≡ filter has_it (cond (q x) (x ∷ filter q xs) (filter q xs))
     inside t true s f rest =
         elim (has_it x) as (λ h. has_it x ≡ h → (h || list_any has_it (filter w (filter p xs))) ≡ false → cond h (x ∷ filter has_it (filter p xs)) (filter has_it (filter p xs)) ≡ filter has_it (cond (q x) (x ∷ filter q xs) (filter q xs))) [
           | true ↦ λ u g. absurd (let z : true ≡ false = g in cc)
@@ -101,7 +104,8 @@ kept_once p q stronger (Some r) =
       ] refl
     ] refl
 
-stays_earlier : (c : Meaning) (docs : List Doc) (age last : Option ℤ) (moment : ℤ) (r : Row) → stays c docs (cutoff_by age last moment) r ≡ true → stays c docs last r ≡ true
+stays_earlier : (c : Meaning) (docs : List Doc) (age last : Option ℤ) (moment : ℤ) (r : Row) → stays c docs (cutoff_by age last moment) r ≡ true
+    → stays c docs last r ≡ true
 stays_earlier c docs None last moment r e = e
 stays_earlier c docs (Some age) None moment r e = refl
 stays_earlier c docs (Some age) (Some a) moment r e = by (is_below (Some a) (c.retained docs r)) refl
@@ -111,13 +115,16 @@ stays_earlier c docs (Some age) (Some a) moment r e = by (is_below (Some a) (c.r
     by false t = ap not t
 
 -- a cut after an earlier cut is the later cut
-pub keep_later : (c : Meaning) (docs : List Doc) (b : Checkpoint) (before : List Checkpoint) (o : Option Row) → keep (stays c docs (cutoff c (b ∷ before))) (keep (stays c docs (cutoff c before)) o) ≡ keep (stays c docs (cutoff c (b ∷ before))) o
+pub keep_later : (c : Meaning) (docs : List Doc) (b : Checkpoint) (before : List Checkpoint) (o : Option Row)
+    → keep (stays c docs (cutoff c (b ∷ before))) (keep (stays c docs (cutoff c before)) o) ≡ keep (stays c docs (cutoff c (b ∷ before))) o
 keep_later c docs b before o = kept_once (stays c docs (cutoff c before)) (stays c docs (cutoff c (b ∷ before))) (λ r. stays_earlier c docs c.max_age (cutoff c before) b.moment r) o
 
-pub stays_same : (c : Meaning) (docs more : List Doc) (cut : Option ℤ) (r : Row) → c.retained more r ≡ c.retained docs r → stays c docs cut r ≡ stays c more cut r
+pub stays_same : (c : Meaning) (docs more : List Doc) (cut : Option ℤ) (r : Row) → c.retained more r ≡ c.retained docs r
+    → stays c docs cut r ≡ stays c more cut r
 stays_same c docs more None r e = refl
 stays_same c docs more (Some x) r e = ap (λ v. not (is_below (Some x) v)) (sym e)
 
-pub keep_same : (c : Meaning) (docs more : List Doc) (cut : Option ℤ) (o : Option Row) → ((r : Row) → o ≡ Some r → c.retained more r ≡ c.retained docs r) → keep (stays c docs cut) o ≡ keep (stays c more cut) o
+pub keep_same : (c : Meaning) (docs more : List Doc) (cut : Option ℤ) (o : Option Row)
+    → ((r : Row) → o ≡ Some r → c.retained more r ≡ c.retained docs r) → keep (stays c docs cut) o ≡ keep (stays c more cut) o
 keep_same c docs more cut None h = refl
 keep_same c docs more cut (Some r) h = ap (λ b. cond b (Some r) None) (stays_same c docs more cut r (h r refl))

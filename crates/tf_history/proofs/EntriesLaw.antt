@@ -75,7 +75,8 @@ find_gone id (p ∷ ps) =
 other : (t id : List ℕ) (p : PutTransform) → is_same t id ≡ false → is_same id p.id ≡ true → is_same t p.id ≡ false
 other t id p e f = subst (λ x. is_same t x ≡ false) (same_id id p.id f) e
 
-find_others : (t id : List ℕ) (ps : List PutTransform) → is_same t id ≡ false → find (is_with t) (filter (λ (p : PutTransform). not (is_same id p.id)) ps) ≡ find (is_with t) ps
+find_others : (t id : List ℕ) (ps : List PutTransform) → is_same t id ≡ false
+    → find (is_with t) (filter (λ (p : PutTransform). not (is_same id p.id)) ps) ≡ find (is_with t) ps
 find_others t id [] e = refl
 find_others t id (p ∷ ps) e =
     elim (is_same id p.id) as (λ b. is_same id p.id ≡ b → find (is_with t) (cond (not b) (p ∷ filter (λ (p : PutTransform). not (is_same id p.id)) ps) (filter (λ (p : PutTransform). not (is_same id p.id)) ps))
@@ -88,11 +89,13 @@ find_others t id (p ∷ ps) e =
 abbrev found : List ℕ → List PutTransform → Option Meaning
 found t ps = option_map meaning_of (find (is_with t) ps)
 
-put_one : (t id : List ℕ) (p : PutTransform) (ps : List PutTransform) (b : Bool) → meant_after (cond b (Opens (meaning_of p)) Aside) (found t ps) ≡ option_map meaning_of (cond b (Some p) (find (is_with t) ps))
+put_one : (t id : List ℕ) (p : PutTransform) (ps : List PutTransform) (b : Bool)
+    → meant_after (cond b (Opens (meaning_of p)) Aside) (found t ps) ≡ option_map meaning_of (cond b (Some p) (find (is_with t) ps))
 put_one t id p ps true = refl
 put_one t id p ps false = refl
 
-deleted : (t id : List ℕ) (ps : List PutTransform) (b : Bool) → is_same t id ≡ b → meant_after (cond b Closes Aside) (found t ps) ≡ found t (filter (λ (p : PutTransform). not (is_same id p.id)) ps)
+deleted : (t id : List ℕ) (ps : List PutTransform) (b : Bool) → is_same t id ≡ b
+    → meant_after (cond b Closes Aside) (found t ps) ≡ found t (filter (λ (p : PutTransform). not (is_same id p.id)) ps)
 deleted t id ps true e =
     ap (option_map meaning_of) (sym (subst (λ x. find (is_with x) (filter (λ (p : PutTransform). not (is_same id p.id)) ps) ≡ None) (sym (same_id t id e)) (find_gone id ps)))
 deleted t id ps false e = ap (option_map meaning_of) (sym (find_others t id ps e))
@@ -123,7 +126,8 @@ lives_are_configured values_of (e ∷ past) t =
     ∙ entered values_of t (catalogue past) e (transforms past))
 
 -- the meaning of a life is that of the transform
-pub same_meaning : (values_of : ValuesOf) (past : List Entry) (t : List ℕ) (p : PutTransform) (l : Life) → transform_of t past ≡ Some p → life t (events values_of past) ≡ Some l → meaning_of p ≡ l.meaning
+pub same_meaning : (values_of : ValuesOf) (past : List Entry) (t : List ℕ) (p : PutTransform) (l : Life) → transform_of t past ≡ Some p
+    → life t (events values_of past) ≡ Some l → meaning_of p ≡ l.meaning
 same_meaning values_of past t p l put is =
     same_Some (meaning_of p) l.meaning (ap (option_map meaning_of) (sym put) ∙ (sym (lives_are_configured values_of past t) ∙ ap meant is))
 

@@ -1,6 +1,6 @@
 -- Worked histories, by computation. In the first a pivot sums cents by customer: two Pages with a stop between them, a
 -- document at the bound that waits, and a second checkpoint.
-use Rattle.std.proofs.Common.{◌≡◌, ℕ, true, false, List, [], ◌∷◌, ◌++◌, Option, Some, None, arith, refl, sym, ap, ◌∙◌, subst, take}
+use Rattle.std.proofs.Common.{◌≡◌, ℕ, true, false, List, [], ◌∷◌, ◌++◌, Option, Some, None, arith, refl, sym, ap, ◌∙◌, subst, take, drop}
 use Rattle.std.specs.Prelude.{pos, codes, option_map}
 use Rattle.std.proofs.lemmas.Int.{ints}
 use Rattle.tf_model.specs.declared.doc.Doc.{Doc}
@@ -29,7 +29,16 @@ use Rattle.tf_history.specs.Grouping.{scratch}
 use Rattle.tf_history.specs.Configured.{meaning}
 use Rattle.tf_history.specs.Lives.{Life, written}
 use Rattle.tf_history.specs.Legality.{IsLegal, next_move}
+use Rattle.tf_history.specs.Legality.{IsAllowed}
 use Rattle.tf_history.specs.Histories.{past_of, life_of, AllRight}
+use Rattle.tf_history.specs.Catalogue.{ValuesOf}
+use Rattle.tf_history.specs.Reading.{events}
+use Rattle.tf_history.specs.LegalEntries.{Reading, IsLegalPast}
+use Rattle.tf_model.specs.declared.entry.Entry.{Entry}
+use Rattle.tf_model.specs.declared.entry.Kind.{Kind}
+use Rattle.tf_model.specs.declared.entry.Kind.TheVariants as kind
+use Rattle.tf_model.specs.declared.query.Mapping.{Mapping}
+use Rattle.tf_model.specs.declared.query.FieldType.TheVariants as field_type
 
 -- a continuous pivot by customer whose Pages have one row
 abbrev by_customer : Agg → Option Retention → Config
@@ -272,3 +281,118 @@ both_were_there = ap (λ c. rows_of (life_of t (take 10 (aged_history c)))) (sym
 one_is_counted_as_deleted : option_map (λ (l : Life). l.deleted) (life_of t (aged_history aged)) ≡ Some 1
 unfolding key_cmp value_cmp value_of keys_of key_of floor_to aligned retained
 one_is_counted_as_deleted = ap (λ c. option_map (λ (l : Life). l.deleted) (life_of t (aged_history c))) (sym (plain_is last two_ms)) ∙ refl
+
+-- ---- entries: a whole legal history of one index, one transform and one document
+abbrev reads : ValuesOf
+reads mapping stamp tree = (document 0 1 10 1).values
+
+abbrev plainly : Reading
+plainly = record {
+  values_of = reads;
+  is_id = λ id. true;
+  is_name = λ name. true;
+  is_field = λ field. true;
+  shard_of = λ id shards. 0;
+  is_config = λ indices c. true;
+  is_read = λ s moment tree. true;
+}
+
+abbrev entry : ℕ → ℕ → Kind → Entry
+entry moment actor k = record { at_ms = pos moment; actor = actor; kind = k }
+
+abbrev orders_mapping : Mapping
+orders_mapping = record { fields = (codes "cents", field_type.Long) ∷ (codes "customer", field_type.Keyword) ∷ (codes "ts", field_type.Date) ∷ [] }
+
+-- newest first
+abbrev entries : List Entry
+entries =
+    entry 3 8 (kind.Finish t 1) ∷ entry 3 8 (kind.Page t 1 (sum_row 1 10 ∷ [])) ∷ entry 3 8 (kind.Begin t 1 (Some (pos 2))) ∷ entry 1 0 (kind.Start t)
+    ∷ entry 1 0 (kind.Write 0 0 0 (0 ∷ []) tree.Null) ∷ entry 0 0 (kind.Put t (by_customer total None)) ∷ entry 0 0 (kind.Index (codes "orders") 1 orders_mapping None false) ∷ []
+
+-- the same as events
+abbrev told : Meaning → List Event
+told c =
+    at 3 (Finish t 1) ∷ at 3 (Page t 1 (sum_row 1 10 ∷ [])) ∷ at 3 (Begin t 1 (Some (pos 2))) ∷ at 1 (Start t)
+    ∷ at 1 (Write (document 0 1 10 1)) ∷ at 0 (Put t c) ∷ at 0 Index ∷ []
+
+entries_tell : events reads entries ≡ told sums
+entries_tell = refl
+
+-- what is allowed where the query asks nothing is allowed where it matches all
+allowed_from_plain : (k m : ℕ) (deed : Deed) → IsAllowed (pos m) deed (drop k (told plain_sums)) → IsAllowed (pos m) deed (drop k (told sums))
+allowed_from_plain k m deed h = subst (λ c. IsAllowed (pos m) deed (drop k (told c))) (plain_is total None) h
+
+begin_allowed : IsAllowed (pos 3) (Begin t 1 (Some (pos 2))) (drop 3 (told plain_sums))
+unfolding key_cmp value_cmp value_of keys_of key_of floor_to aligned retained
+begin_allowed = record { started = refl; idle = refl; due = refl; number = refl; bound_is = refl }
+
+page_allowed : IsAllowed (pos 3) (Page t 1 (sum_row 1 10 ∷ [])) (drop 2 (told plain_sums))
+unfolding key_cmp value_cmp value_of keys_of key_of floor_to aligned retained
+page_allowed = record { running = (refl, refl); active = refl; some = omega arith; fits = omega arith; ascending = (tt, tt); above = refl }
+
+finish_allowed : IsAllowed (pos 3) (Finish t 1) (drop 1 (told plain_sums))
+unfolding key_cmp value_cmp value_of keys_of key_of floor_to aligned retained
+finish_allowed = record { running = (refl, refl); active = refl; nothing_left = refl }
+
+index_legal : IsLegalPast plainly (drop 6 entries)
+index_legal =
+    (tt, record {
+      moment = (omega (arith, ints), omega (arith, ints));
+      later = tt;
+      actor = omega arith;
+      fits = record { well_formed = refl; free = refl; few = omega arith; shards = (omega arith, omega arith); fields = omega arith; field_names = refl; stamp = tt; slow = refl };
+      allowed = tt;
+    })
+
+put_legal : IsLegalPast plainly (drop 5 entries)
+put_legal =
+    (index_legal, record {
+      moment = (omega (arith, ints), omega (arith, ints));
+      later = omega (arith, ints);
+      actor = omega arith;
+      fits = record { well_formed = refl; few = omega arith; checked = refl; dest_free = refl };
+      allowed = refl;
+    })
+
+write_legal : IsLegalPast plainly (drop 4 entries)
+write_legal =
+    (put_legal, record {
+      moment = (omega (arith, ints), omega (arith, ints));
+      later = omega (arith, ints);
+      actor = omega arith;
+      fits = record { routed = refl; next = refl; room = omega arith; id_size = (omega arith, omega arith); id_new = refl; read = refl };
+      allowed = tt;
+    })
+
+start_legal : IsLegalPast plainly (drop 3 entries)
+start_legal = (write_legal, record { moment = (omega (arith, ints), omega (arith, ints)); later = omega (arith, ints); actor = omega arith; fits = tt; allowed = refl })
+
+begin_legal : IsLegalPast plainly (drop 2 entries)
+begin_legal =
+    (start_legal, record {
+      moment = (omega (arith, ints), omega (arith, ints));
+      later = omega (arith, ints);
+      actor = omega arith;
+      fits = tt;
+      allowed = allowed_from_plain 3 3 (Begin t 1 (Some (pos 2))) begin_allowed;
+    })
+
+page_legal : IsLegalPast plainly (drop 1 entries)
+page_legal =
+    (begin_legal, record {
+      moment = (omega (arith, ints), omega (arith, ints));
+      later = omega (arith, ints);
+      actor = omega arith;
+      fits = (record { parts = refl; part_dates = (tt, tt); values_are = refl; fits = ((omega (arith, ints), omega (arith, ints)), tt) }, tt);
+      allowed = allowed_from_plain 2 3 (Page t 1 (sum_row 1 10 ∷ [])) page_allowed;
+    })
+
+entries_are_legal : IsLegalPast plainly entries
+entries_are_legal =
+    (page_legal, record {
+      moment = (omega (arith, ints), omega (arith, ints));
+      later = omega (arith, ints);
+      actor = omega arith;
+      fits = tt;
+      allowed = allowed_from_plain 1 3 (Finish t 1) finish_allowed;
+    })

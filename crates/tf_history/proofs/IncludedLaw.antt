@@ -28,7 +28,8 @@ abbrev IsOwn : Meaning → List Checkpoint → Type 0
 IsOwn c [] = ⊤
 IsOwn c (b ∷ before) = (k : Key) → last_row c (b ∷ before) k ≡ row_if_any c (counted c b.bound b.read) k
 
-begun_own : (c : Meaning) (b : Checkpoint) (checkpoints : List Checkpoint) → c.includes_late ≡ true → HasBound checkpoints → (y : ℤ) → b.bound ≡ Some (risen (last_bound checkpoints) y) → AllBegin checkpoints b.read → IsOwn c checkpoints → IsOwn c (b ∷ checkpoints)
+begun_own : (c : Meaning) (b : Checkpoint) (checkpoints : List Checkpoint) → c.includes_late ≡ true → HasBound checkpoints → (y : ℤ)
+    → b.bound ≡ Some (risen (last_bound checkpoints) y) → AllBegin checkpoints b.read → IsOwn c checkpoints → IsOwn c (b ∷ checkpoints)
 begun_own c b [] includes bounded y next reads h = λ k. ap (λ t. cond t (row_of c (counted c b.bound b.read) k) None) (is_among-all_keys c k (counted c b.bound b.read))
 begun_own c b (a ∷ before) includes bounded y next reads h = λ k.
     ap (λ o. cond (is_among (changed c (b ∷ a ∷ before)) k) (row_of c (counted c b.bound b.read) k) o) (h k)
@@ -42,7 +43,8 @@ begun_own c b (a ∷ before) includes bounded y next reads h = λ k.
         ap (λ t. cond t (from_bound c a.bound (counted c b.bound a.read) ++ counted c b.bound (drop (length a.read) b.read)) (from_bound c a.bound (counted c b.bound b.read))) includes
         ∙ ap (λ ds. from_bound c a.bound (counted c b.bound a.read) ++ counted c b.bound ds) (ap (drop (length a.read)) reads.0.1 ∙ drop_at a.read reads.0.0 (length a.read) refl)
 
-    parts : (k : Key) → is_among (changed c (b ∷ a ∷ before)) k ≡ (list_any (has_key c k) (from_bound c a.bound (counted c b.bound a.read)) || list_any (has_key c k) (counted c b.bound reads.0.0))
+    parts : (k : Key)
+        → is_among (changed c (b ∷ a ∷ before)) k ≡ (list_any (has_key c k) (from_bound c a.bound (counted c b.bound a.read)) || list_any (has_key c k) (counted c b.bound reads.0.0))
     parts k = is_among-all_keys c k (window c (b ∷ a ∷ before)) ∙ (ap (list_any (has_key c k)) window_is ∙ any-append (has_key c k) (from_bound c a.bound (counted c b.bound a.read)) (counted c b.bound reads.0.0))
 
     weaken : (p q r : Bool) → (p ≡ true → r ≡ true) → (p || q) ≡ true → (r || q) ≡ true
@@ -55,7 +57,8 @@ begun_own c b (a ∷ before) includes bounded y next reads h = λ k.
     neither true q e = absurd (let z : true ≡ false = e in cc)
     neither false q e = (refl, e)
 
-    by_change : (k : Key) (t : Bool) → is_among (changed c (b ∷ a ∷ before)) k ≡ t → cond t (row_of c (counted c b.bound b.read) k) (row_if_any c (counted c a.bound a.read) k) ≡ row_if_any c (counted c b.bound b.read) k
+    by_change : (k : Key) (t : Bool) → is_among (changed c (b ∷ a ∷ before)) k ≡ t
+        → cond t (row_of c (counted c b.bound b.read) k) (row_if_any c (counted c a.bound a.read) k) ≡ row_if_any c (counted c b.bound b.read) k
     by_change k true e =
         let some : list_any (has_key c k) (counted c b.bound b.read) ≡ true =
         ap (list_any (has_key c k)) counted_parts ∙ (any-append (has_key c k) (counted c b.bound a.read) (counted c b.bound reads.0.0)
@@ -89,11 +92,14 @@ kept = record {
   done = λ past moment id n l legal m h. record { reads = reads_kept.done past moment id n l legal m h.reads; whole = step (documents past) (documents past ++ []) (Finishes n) (Some l) refl m h.whole; own = h.own };
 }
 
-own_each : (c : Meaning) (checkpoints : List Checkpoint) → 0 < length checkpoints → IsOwn c checkpoints → (k : Key) → last_row c checkpoints k ≡ row_if_any c (counted c (last_bound checkpoints) (read_last checkpoints)) k
+own_each : (c : Meaning) (checkpoints : List Checkpoint) → 0 < length checkpoints → IsOwn c checkpoints → (k : Key)
+    → last_row c checkpoints k ≡ row_if_any c (counted c (last_bound checkpoints) (read_last checkpoints)) k
 own_each c [] some h k = absurd (omega arith)
 own_each c (b ∷ before) some h k = h k
 
-steady : (c : Meaning) → IsSteady c → (checkpoints : List Checkpoint) (docs : List Doc) → 0 < length checkpoints → AllBegin checkpoints docs → (k : Key) (cut : Option ℤ) → keep (stays c docs cut) (row_if_any c (counted c (last_bound checkpoints) (read_last checkpoints)) k) ≡ keep (stays c (read_last checkpoints) cut) (row_if_any c (counted c (last_bound checkpoints) (read_last checkpoints)) k)
+steady : (c : Meaning) → IsSteady c → (checkpoints : List Checkpoint) (docs : List Doc) → 0 < length checkpoints → AllBegin checkpoints docs
+    → (k : Key) (cut : Option ℤ)
+    → keep (stays c docs cut) (row_if_any c (counted c (last_bound checkpoints) (read_last checkpoints)) k) ≡ keep (stays c (read_last checkpoints) cut) (row_if_any c (counted c (last_bound checkpoints) (read_last checkpoints)) k)
 steady c s [] docs some reads k cut = absurd (omega arith)
 steady c s (b ∷ before) docs some reads k cut = sym (keep_same c b.read docs cut (row_if_any c (counted c b.bound b.read) k) (λ r e. one (list_any (has_key c k) (counted c b.bound b.read)) r e))
   where

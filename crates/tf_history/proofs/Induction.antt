@@ -20,12 +20,18 @@ event moment deed = record { moment = moment; deed = deed }
 -- R is what is known of each Page of the life
 pub record IsKept (R : Life → List Row → Type 0) (I : List Event → Life → Type 0) : Type 0 where
   pub opened : (past : List Event) (moment : ℤ) (deed : Deed) (c : Meaning) → I (event moment deed ∷ past) (fresh c)
-  pub aside : (past : List Event) (moment : ℤ) (deed : Deed) (l : Life) → IsLegal (event moment deed ∷ past) → writes deed ≡ [] → I past l → I (event moment deed ∷ past) l
-  pub turned : (past : List Event) (moment : ℤ) (deed : Deed) (turn : Turn) (l : Life) → IsLegal (event moment deed ∷ past) → writes deed ≡ [] → I past l → I (event moment deed ∷ past) (lived (documents past) (Turns turn) l)
-  pub wrote : (past : List Event) (moment : ℤ) (d : Doc) (l : Life) → IsLegal (event moment (Write d) ∷ past) → I past l → I (event moment (Write d) ∷ past) (lived (documents past) (Writes d) l)
-  pub begun : (past : List Event) (moment : ℤ) (id : List ℕ) (n : ℕ) (bound : Option ℤ) (l : Life) → IsLegal (event moment (Begin id n bound) ∷ past) → IsNextBegin l n bound moment → I past l → I (event moment (Begin id n bound) ∷ past) (lived (documents past) (Begins n bound moment) l)
-  pub paged : (past : List Event) (moment : ℤ) (id : List ℕ) (n : ℕ) (rows : List Row) (l : Life) → IsLegal (event moment (Page id n rows) ∷ past) → MayPage l n rows → R l rows → I past l → I (event moment (Page id n rows) ∷ past) (lived (documents past) (Pages n rows) l)
-  pub done : (past : List Event) (moment : ℤ) (id : List ℕ) (n : ℕ) (l : Life) → IsLegal (event moment (Finish id n) ∷ past) → MayFinish l n → I past l → I (event moment (Finish id n) ∷ past) (lived (documents past) (Finishes n) l)
+  pub aside : (past : List Event) (moment : ℤ) (deed : Deed) (l : Life) → IsLegal (event moment deed ∷ past) → writes deed ≡ [] → I past l
+      → I (event moment deed ∷ past) l
+  pub turned : (past : List Event) (moment : ℤ) (deed : Deed) (turn : Turn) (l : Life) → IsLegal (event moment deed ∷ past) → writes deed ≡ []
+      → I past l → I (event moment deed ∷ past) (lived (documents past) (Turns turn) l)
+  pub wrote : (past : List Event) (moment : ℤ) (d : Doc) (l : Life) → IsLegal (event moment (Write d) ∷ past) → I past l
+      → I (event moment (Write d) ∷ past) (lived (documents past) (Writes d) l)
+  pub begun : (past : List Event) (moment : ℤ) (id : List ℕ) (n : ℕ) (bound : Option ℤ) (l : Life) → IsLegal (event moment (Begin id n bound) ∷ past)
+      → IsNextBegin l n bound moment → I past l → I (event moment (Begin id n bound) ∷ past) (lived (documents past) (Begins n bound moment) l)
+  pub paged : (past : List Event) (moment : ℤ) (id : List ℕ) (n : ℕ) (rows : List Row) (l : Life) → IsLegal (event moment (Page id n rows) ∷ past)
+      → MayPage l n rows → R l rows → I past l → I (event moment (Page id n rows) ∷ past) (lived (documents past) (Pages n rows) l)
+  pub done : (past : List Event) (moment : ℤ) (id : List ℕ) (n : ℕ) (l : Life) → IsLegal (event moment (Finish id n) ∷ past) → MayFinish l n
+      → I past l → I (event moment (Finish id n) ∷ past) (lived (documents past) (Finishes n) l)
 
 -- what is known of the Pages of the life of t
 abbrev pub KnownAct : (Life → List Row → Type 0) → Act → Option Life → Type 0 → Type 0
@@ -39,12 +45,14 @@ PagesKnown R t [] = ⊤
 PagesKnown R t (e ∷ past) = KnownAct R (act t e) (life t past) (PagesKnown R t past)
 
 module _ (R : Life → List Row → Type 0) (I : List Event → Life → Type 0) (keeps : IsKept R I) where
-  aside_any : (past : List Event) (moment : ℤ) (deed : Deed) (o : Option Life) → IsLegal (event moment deed ∷ past) → writes deed ≡ [] → IfSome o (I past) → IfSome (life_after (documents past) Aside o) (I (event moment deed ∷ past))
+  aside_any : (past : List Event) (moment : ℤ) (deed : Deed) (o : Option Life) → IsLegal (event moment deed ∷ past) → writes deed ≡ []
+      → IfSome o (I past) → IfSome (life_after (documents past) Aside o) (I (event moment deed ∷ past))
   aside_any past moment deed None legal none h = tt
   aside_any past moment deed (Some l) legal none h = keeps.aside past moment deed l legal none h
 
   -- an act that names an id
-  named : (past : List Event) (moment : ℤ) (deed : Deed) (a : Act) (o : Option Life) (b : Bool) (P : Type 0) → IsLegal (event moment deed ∷ past) → writes deed ≡ [] → (P → IfSome o (I past))
+  named : (past : List Event) (moment : ℤ) (deed : Deed) (a : Act) (o : Option Life) (b : Bool) (P : Type 0) → IsLegal (event moment deed ∷ past)
+      → writes deed ≡ [] → (P → IfSome o (I past))
       → (b ≡ true → KnownAct R a o P → IfSome (life_after (documents past) a o) (I (event moment deed ∷ past)))
       → KnownAct R (cond b a Aside) o P → IfSome (life_after (documents past) (cond b a Aside) o) (I (event moment deed ∷ past))
   named past moment deed a o true P legal none h g known = g refl known
@@ -54,27 +62,37 @@ module _ (R : Life → List Row → Type 0) (I : List Event → Life → Type 0)
   reopened past moment deed None = tt
   reopened past moment deed (Some l) = keeps.opened past moment deed l.meaning
 
-  turned_any : (past : List Event) (moment : ℤ) (deed : Deed) (turn : Turn) (o : Option Life) → IsLegal (event moment deed ∷ past) → writes deed ≡ [] → IfSome o (I past) → IfSome (life_after (documents past) (Turns turn) o) (I (event moment deed ∷ past))
+  turned_any : (past : List Event) (moment : ℤ) (deed : Deed) (turn : Turn) (o : Option Life) → IsLegal (event moment deed ∷ past) → writes deed ≡ []
+      → IfSome o (I past) → IfSome (life_after (documents past) (Turns turn) o) (I (event moment deed ∷ past))
   turned_any past moment deed turn None legal none h = tt
   turned_any past moment deed turn (Some l) legal none h = keeps.turned past moment deed turn l legal none h
 
-  wrote_any : (past : List Event) (moment : ℤ) (d : Doc) (o : Option Life) → IsLegal (event moment (Write d) ∷ past) → IfSome o (I past) → IfSome (life_after (documents past) (Writes d) o) (I (event moment (Write d) ∷ past))
+  wrote_any : (past : List Event) (moment : ℤ) (d : Doc) (o : Option Life) → IsLegal (event moment (Write d) ∷ past) → IfSome o (I past)
+      → IfSome (life_after (documents past) (Writes d) o) (I (event moment (Write d) ∷ past))
   wrote_any past moment d None legal h = tt
   wrote_any past moment d (Some l) legal h = keeps.wrote past moment d l legal h
 
-  begun_any : (past : List Event) (moment : ℤ) (id : List ℕ) (n : ℕ) (bound : Option ℤ) (o : Option Life) → IsLegal (event moment (Begin id n bound) ∷ past) → IsSomeAnd o (λ l. IsNextBegin l n bound moment) → IfSome o (I past) → IfSome (life_after (documents past) (Begins n bound moment) o) (I (event moment (Begin id n bound) ∷ past))
+  begun_any : (past : List Event) (moment : ℤ) (id : List ℕ) (n : ℕ) (bound : Option ℤ) (o : Option Life)
+      → IsLegal (event moment (Begin id n bound) ∷ past) → IsSomeAnd o (λ l. IsNextBegin l n bound moment) → IfSome o (I past)
+      → IfSome (life_after (documents past) (Begins n bound moment) o) (I (event moment (Begin id n bound) ∷ past))
   begun_any past moment id n bound None legal m h = tt
   begun_any past moment id n bound (Some l) legal m h = keeps.begun past moment id n bound l legal m h
 
-  paged_any : (past : List Event) (moment : ℤ) (id : List ℕ) (n : ℕ) (rows : List Row) (o : Option Life) → IsLegal (event moment (Page id n rows) ∷ past) → IsSomeAnd o (λ l. MayPage l n rows) → IsSomeAnd o (λ l. R l rows) → IfSome o (I past) → IfSome (life_after (documents past) (Pages n rows) o) (I (event moment (Page id n rows) ∷ past))
+  paged_any : (past : List Event) (moment : ℤ) (id : List ℕ) (n : ℕ) (rows : List Row) (o : Option Life)
+      → IsLegal (event moment (Page id n rows) ∷ past) → IsSomeAnd o (λ l. MayPage l n rows) → IsSomeAnd o (λ l. R l rows) → IfSome o (I past)
+      → IfSome (life_after (documents past) (Pages n rows) o) (I (event moment (Page id n rows) ∷ past))
   paged_any past moment id n rows None legal m r h = tt
   paged_any past moment id n rows (Some l) legal m r h = keeps.paged past moment id n rows l legal m r h
 
-  done_any : (past : List Event) (moment : ℤ) (id : List ℕ) (n : ℕ) (o : Option Life) → IsLegal (event moment (Finish id n) ∷ past) → IsSomeAnd o (λ l. MayFinish l n) → IfSome o (I past) → IfSome (life_after (documents past) (Finishes n) o) (I (event moment (Finish id n) ∷ past))
+  done_any : (past : List Event) (moment : ℤ) (id : List ℕ) (n : ℕ) (o : Option Life) → IsLegal (event moment (Finish id n) ∷ past)
+      → IsSomeAnd o (λ l. MayFinish l n) → IfSome o (I past)
+      → IfSome (life_after (documents past) (Finishes n) o) (I (event moment (Finish id n) ∷ past))
   done_any past moment id n None legal m h = tt
   done_any past moment id n (Some l) legal m h = keeps.done past moment id n l legal m h
 
-  step : (t : List ℕ) (moment : ℤ) (deed : Deed) (past : List Event) (P : Type 0) → IsLegal (event moment deed ∷ past) → KnownAct R (act t (event moment deed)) (life t past) P → (P → IfSome (life t past) (I past)) → IfSome (life t (event moment deed ∷ past)) (I (event moment deed ∷ past))
+  step : (t : List ℕ) (moment : ℤ) (deed : Deed) (past : List Event) (P : Type 0) → IsLegal (event moment deed ∷ past)
+      → KnownAct R (act t (event moment deed)) (life t past) P → (P → IfSome (life t past) (I past))
+      → IfSome (life t (event moment deed ∷ past)) (I (event moment deed ∷ past))
   step t moment Index past P legal known h = aside_any past moment Index (life t past) legal refl (h known)
   step t moment (Write d) past P legal known h = wrote_any past moment d (life t past) legal (h known)
   step t moment (Put id c) past P legal known h = named past moment (Put id c) (Opens c) (life t past) (is_same t id) P legal refl h (λ e k. keeps.opened past moment (Put id c) c) known

@@ -126,7 +126,8 @@ drop_none (suc n) [] e = refl
 drop_none (suc n) (k ∷ keys) e = absurd (let f : ◌≡◌ {A = List Key} (k ∷ take n keys) [] = e in cc)
 
 -- what is above the last of a front is the rest
-pub above_front : (keys : List Key) (n : ℕ) (last : Key) → IsAscending keys → last_of (take n keys) ≡ Some last → filter (is_after (Some last)) keys ≡ drop n keys
+pub above_front : (keys : List Key) (n : ℕ) (last : Key) → IsAscending keys → last_of (take n keys) ≡ Some last
+    → filter (is_after (Some last)) keys ≡ drop n keys
 above_front keys zero last h e = absurd (let f : ◌≡◌ {A = Option Key} None (Some last) = e in cc)
 above_front [] (suc n) last h e = refl
 above_front (j ∷ keys) (suc n) last h e =
@@ -160,7 +161,8 @@ last_passes p (k ∷ keys) n last e =
       | false ↦ λ t f. last_passes p keys n last f
     ] refl e
   where
-    front : ((m : ℕ) → last_of (take m (filter p keys)) ≡ Some last → p last ≡ true) → (m : ℕ) → p k ≡ true → last_of (take m (k ∷ filter p keys)) ≡ Some last → p last ≡ true
+    front : ((m : ℕ) → last_of (take m (filter p keys)) ≡ Some last → p last ≡ true) → (m : ℕ) → p k ≡ true
+        → last_of (take m (k ∷ filter p keys)) ≡ Some last → p last ≡ true
     front rest zero t f = absurd (let g : ◌≡◌ {A = Option Key} None (Some last) = f in cc)
     front rest (suc m) t f =
         elim (take m (filter p keys)) as (λ ks. take m (filter p keys) ≡ ks → last_of (k ∷ ks) ≡ Some last → p last ≡ true) [
@@ -169,7 +171,8 @@ last_passes p (k ∷ keys) n last e =
         ] refl f
 
 -- after a page of the keys above p, what is above its last key is what was left
-pub above_page : (keys : List Key) (p : Option Key) (n : ℕ) (last : Key) → IsAscending keys → last_of (take n (filter (is_after p) keys)) ≡ Some last → filter (is_after (Some last)) keys ≡ drop n (filter (is_after p) keys)
+pub above_page : (keys : List Key) (p : Option Key) (n : ℕ) (last : Key) → IsAscending keys → last_of (take n (filter (is_after p) keys)) ≡ Some last
+    → filter (is_after (Some last)) keys ≡ drop n (filter (is_after p) keys)
 above_page keys p n last h e =
     sym (filter_after (is_after p) (is_after (Some last)) (above_stronger p last (last_passes (is_after p) keys n last e)) keys)
     ∙ above_front (filter (is_after p) keys) n last (ascending_filter (is_after p) keys h) e
@@ -188,7 +191,8 @@ is_among-filter p k (j ∷ keys) =
       | false ↦ λ e. there e (p j) (is_among-filter p k keys)
     ] refl
   where
-    here : is_eq (key_cmp k j) ≡ true → (b : Bool) → p k ≡ b → is_among (filter p keys) k ≡ (is_among keys k && p k) → is_among (cond b (j ∷ filter p keys) (filter p keys)) k ≡ b
+    here : is_eq (key_cmp k j) ≡ true → (b : Bool) → p k ≡ b → is_among (filter p keys) k ≡ (is_among keys k && p k)
+        → is_among (cond b (j ∷ filter p keys) (filter p keys)) k ≡ b
     here e true t rest = ap (λ c. c || is_among (filter p keys) k) e
     here e false t rest = rest ∙ (ap (λ c. is_among keys k && c) t ∙ and_no (is_among keys k))
       where
@@ -196,7 +200,8 @@ is_among-filter p k (j ∷ keys) =
         and_no true = refl
         and_no false = refl
 
-    there : is_eq (key_cmp k j) ≡ false → (b : Bool) → is_among (filter p keys) k ≡ (is_among keys k && p k) → is_among (cond b (j ∷ filter p keys) (filter p keys)) k ≡ (is_among keys k && p k)
+    there : is_eq (key_cmp k j) ≡ false → (b : Bool) → is_among (filter p keys) k ≡ (is_among keys k && p k)
+        → is_among (cond b (j ∷ filter p keys) (filter p keys)) k ≡ (is_among keys k && p k)
     there e true rest = ap (λ c. c || is_among (filter p keys) k) e ∙ rest
     there e false rest = rest
 

@@ -28,7 +28,9 @@ under_later : (o : Option ℤ) (y : ℤ) (v : Option ℤ) → is_under o v ≡ t
 under_later None y v e = absurd (let z : false ≡ true = e in cc)
 under_later (Some x) y v e = below_risen v x y e
 
-begun : (c : Meaning) (bound : Option ℤ) (moment : ℤ) (checkpoints : List Checkpoint) (v : Option ℤ) → bound ≡ next_bound c (last_bound checkpoints) moment → (c.is_batch ≡ true → checkpoints ≡ []) → is_under_some checkpoints v ≡ is_under (last_bound checkpoints) v → (is_under bound v || is_under_some checkpoints v) ≡ is_under bound v
+begun : (c : Meaning) (bound : Option ℤ) (moment : ℤ) (checkpoints : List Checkpoint) (v : Option ℤ)
+    → bound ≡ next_bound c (last_bound checkpoints) moment → (c.is_batch ≡ true → checkpoints ≡ [])
+    → is_under_some checkpoints v ≡ is_under (last_bound checkpoints) v → (is_under bound v || is_under_some checkpoints v) ≡ is_under bound v
 begun c bound moment checkpoints v next once h = by_kind c.is_batch refl
   where
     by_kind : (b : Bool) → c.is_batch ≡ b → (is_under bound v || is_under_some checkpoints v) ≡ is_under bound v

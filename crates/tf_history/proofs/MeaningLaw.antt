@@ -84,14 +84,16 @@ since_is : (sources : List ℕ) (c : Config) (low : Option ℤ) (d : Doc) → is
 since_is sources c None d = refl
 since_is sources c (Some low) d = from_is low (sync_value c d)
 
-between_is : (sources : List ℕ) (c : Config) (low high : Option ℤ) (docs : List Doc) → from_bound (meaning sources c) low (counted (meaning sources c) high docs) ≡ model.window c low high docs
+between_is : (sources : List ℕ) (c : Config) (low high : Option ℤ) (docs : List Doc)
+    → from_bound (meaning sources c) low (counted (meaning sources c) high docs) ≡ model.window c low high docs
 unfolding model.window is_in_window
 between_is sources c low high docs =
     filter_both (λ d. is_from low ((meaning sources c).sync d)) (counts (meaning sources c) high) docs
     ∙ filter_agree (λ d. counts (meaning sources c) high d && is_from low ((meaning sources c).sync d)) (λ d. model.counts c high d && model.is_from c low d)
     (λ d i. counts_is sources c high d i && since_is sources c low d i) docs
 
-window_is : (sources : List ℕ) (c : Config) (b : Checkpoint) (before : List Checkpoint) → window (meaning sources c) (b ∷ before) ≡ model.window c (last_bound before) b.bound b.read
+window_is : (sources : List ℕ) (c : Config) (b : Checkpoint) (before : List Checkpoint)
+    → window (meaning sources c) (b ∷ before) ≡ model.window c (last_bound before) b.bound b.read
 window_is sources c b [] = counted_is sources c b.bound b.read ∙ sym (window_of_all c b.bound b.read)
 window_is sources c b (a ∷ before) = between_is sources c a.bound b.bound b.read
 
@@ -104,7 +106,8 @@ has_key_is : (sources : List ℕ) (c : Config) (k : Key) (d : Doc) → has_key (
 unfolding model_keys.has_key
 has_key_is sources c k d = refl
 
-changed_is : (sources : List ℕ) (c : Config) (b : Checkpoint) (before : List Checkpoint) → changed (meaning sources c) (b ∷ before) ≡ model_changed.changed c (last_bound before) b.bound b.read
+changed_is : (sources : List ℕ) (c : Config) (b : Checkpoint) (before : List Checkpoint)
+    → changed (meaning sources c) (b ∷ before) ≡ model_changed.changed c (last_bound before) b.bound b.read
 unfolding model_changed.changed
 changed_is sources c b before = all_keys_is sources c (window (meaning sources c) (b ∷ before)) ∙ ap (model_keys.all_keys c) (window_is sources c b before)
 
@@ -135,7 +138,8 @@ sum_range_is : (sources : List ℕ) (c : Config) (docs : List Doc) (k : Key) →
 unfolding model_rows.sum_range with_key model_keys.has_key
 sum_range_is sources c docs k = refl
 
-stays_is : (sources : List ℕ) (c : Config) (docs : List Doc) (cut : Option ℤ) (r : Row) → stays (meaning sources c) docs cut r ≡ model_retention.stays c docs cut r
+stays_is : (sources : List ℕ) (c : Config) (docs : List Doc) (cut : Option ℤ) (r : Row)
+    → stays (meaning sources c) docs cut r ≡ model_retention.stays c docs cut r
 unfolding model_retention.stays
 stays_is sources c docs None r = refl
 stays_is sources c docs (Some cut) r = ap not (past_is cut (retained c docs r))
@@ -150,7 +154,8 @@ grouping_is sources c docs =
     made_same (row_of (meaning sources c) docs) (model_scratch.row_of sources c docs) (row_is sources c docs) (all_keys (meaning sources c) docs)
     ∙ ap (filter_map (model_scratch.row_of sources c docs)) (all_keys_is sources c docs)
 
-scratch_is : (sources : List ℕ) (c : Config) (bound cut : Option ℤ) (docs : List Doc) → scratch (meaning sources c) bound cut docs ≡ model_scratch.scratch sources c bound cut docs
+scratch_is : (sources : List ℕ) (c : Config) (bound cut : Option ℤ) (docs : List Doc)
+    → scratch (meaning sources c) bound cut docs ≡ model_scratch.scratch sources c bound cut docs
 unfolding model_scratch.scratch
 scratch_is sources c bound cut docs =
     filter_agree (stays (meaning sources c) docs cut) (model_retention.stays c docs cut) (stays_is sources c docs cut) (grouping (meaning sources c) (counted (meaning sources c) bound docs))
@@ -167,7 +172,8 @@ next_bound_is : (sources : List ℕ) (c : Config) (last : Option ℤ) (now : ℤ
 unfolding model_bounds.next_bound
 next_bound_is sources c last now = bound_by c c.sync last now
 
-cutoff_is : (sources : List ℕ) (c : Config) (b : Checkpoint) (before : List Checkpoint) → cutoff (meaning sources c) (b ∷ before) ≡ model_bounds.cutoff c (cutoff (meaning sources c) before) b.moment
+cutoff_is : (sources : List ℕ) (c : Config) (b : Checkpoint) (before : List Checkpoint)
+    → cutoff (meaning sources c) (b ∷ before) ≡ model_bounds.cutoff c (cutoff (meaning sources c) before) b.moment
 unfolding model_bounds.cutoff
 cutoff_is sources c b before = refl
 

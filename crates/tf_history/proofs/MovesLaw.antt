@@ -72,7 +72,8 @@ idle_from : (finished begun : ℕ) (b : Bool) → nat_lt finished begun ≡ b �
 idle_from finished begun b e f (inl h) = h
 idle_from finished begun b e f (inr h) = let z : begun ≤ finished = ltb-false finished begun (e ∙ f) in omega arith
 
-turned_started : (turn : Turn) (b : Bool) (state : State) (finished begun : ℕ) → nat_lt finished begun ≡ b → IsCount finished begun → StartedIdle state finished begun → StartedIdle (state_turned turn b state) finished begun
+turned_started : (turn : Turn) (b : Bool) (state : State) (finished begun : ℕ) → nat_lt finished begun ≡ b → IsCount finished begun
+    → StartedIdle state finished begun → StartedIdle (state_turned turn b state) finished begun
 turned_started Starts true state finished begun e c h = tt
 turned_started Starts false state finished begun e c h = idle_from finished begun false e refl c
 turned_started (Asks wait) b state finished begun e c h = tt
@@ -119,7 +120,8 @@ abbrev IsFine : ℤ → List Event → Deed → Type 0
 IsFine moment past deed = IsAllowed moment deed past × IsRightEvent deed past
 
 -- a Fail with the sum that is there
-fail_fine : (past : List Event) (t : List ℕ) (moment : ℤ) (l : Life) (deed : Deed) → life t past ≡ Some l → IsRunning l (l.finished + 1) → is_active l.state ≡ true → (k : Key) → failing l ≡ Some k
+fail_fine : (past : List Event) (t : List ℕ) (moment : ℤ) (l : Life) (deed : Deed) → life t past ≡ Some l → IsRunning l (l.finished + 1)
+    → is_active l.state ≡ true → (k : Key) → failing l ≡ Some k
     → (o : Option SumRange) → sum_now l k ≡ o → option_map (fail_move t l k) o ≡ Some deed → IsFine moment past deed
 fail_fine past t moment l deed is running active k first None e f = absurd (let z : ◌≡◌ {A = Option Deed} None (Some deed) = f in cc)
 fail_fine past t moment l deed is running active k first (Some range) e f =
@@ -129,7 +131,8 @@ fail_fine past t moment l deed is running active k first (Some range) e f =
       tt,
     )
 
-finish_fine : (past : List Event) (t : List ℕ) (moment : ℤ) (l : Life) → life t past ≡ Some l → 0 < l.meaning.page_size → IsRunning l (l.finished + 1) → is_active l.state ≡ true
+finish_fine : (past : List Event) (t : List ℕ) (moment : ℤ) (l : Life) → life t past ≡ Some l → 0 < l.meaning.page_size → IsRunning l (l.finished + 1)
+    → is_active l.state ≡ true
     → next_page l ≡ [] → IsFine moment past (Finish t (l.finished + 1))
 finish_fine past t moment l is size running active f = (
   subst (λ o. IsSomeAnd o (λ m. MayFinish m (l.finished + 1))) (sym is)
@@ -166,7 +169,8 @@ rows_fine past t moment l is running active k keys e f = (
     some : 0 < length (filter_map (row_now l) (k ∷ keys))
     some = let z = made_length (row_now l) (filter_map (row_now l) (k ∷ keys)) (k ∷ keys) made in omega arith
 
-page_fine : (past : List Event) (t : List ℕ) (moment : ℤ) (l : Life) (deed : Deed) → life t past ≡ Some l → 0 < l.meaning.page_size → IsRunning l (l.finished + 1) → is_active l.state ≡ true
+page_fine : (past : List Event) (t : List ℕ) (moment : ℤ) (l : Life) (deed : Deed) → life t past ≡ Some l → 0 < l.meaning.page_size
+    → IsRunning l (l.finished + 1) → is_active l.state ≡ true
     → (o : Option Key) (keys : List Key) → failing l ≡ o → next_page l ≡ keys → page_move t l o keys ≡ Some deed → IsFine moment past deed
 page_fine past t moment l deed is size running active (Some k) keys e f g = fail_fine past t moment l deed is running active k e (sum_now l k) refl g
 page_fine past t moment l deed is size running active None [] e f g =
@@ -193,7 +197,8 @@ chain past t moment deed l is size h false false true p q r e =
     page_fine past t moment l deed is size (refl, running_from l.finished (length l.checkpoints) (and_first (is_running l) (is_active l.state) r) h.count) (and_second (is_running l) (is_active l.state) r) (failing l) (next_page l) refl refl e
 chain past t moment deed l is size h false false false p q r e = absurd (let z : ◌≡◌ {A = Option Deed} None (Some deed) = e in cc)
 
-moved : (past : List Event) (t : List ℕ) (moment : ℤ) (deed : Deed) (o : Option Life) → life t past ≡ o → IfSome o (λ l. 0 < l.meaning.page_size) → IfSome o (CountHold past) → option_and_then (λ l. move_of t l (documents past) moment) o ≡ Some deed → IsFine moment past deed
+moved : (past : List Event) (t : List ℕ) (moment : ℤ) (deed : Deed) (o : Option Life) → life t past ≡ o → IfSome o (λ l. 0 < l.meaning.page_size)
+    → IfSome o (CountHold past) → option_and_then (λ l. move_of t l (documents past) moment) o ≡ Some deed → IsFine moment past deed
 moved past t moment deed None is size h e = absurd (let z : ◌≡◌ {A = Option Deed} None (Some deed) = e in cc)
 moved past t moment deed (Some l) is size h e = chain past t moment deed l is size h (may_stop l.state l) (is_started l.state && is_due l (documents past) moment) (is_running l && is_active l.state) refl refl refl e
 

@@ -69,7 +69,8 @@ step_there group_kind.Terms step v e = absurd (let z : ◌≡◌ {A = Option ℤ
 step_there (group_kind.Histogram interval) step v e = absurd (let z : ◌≡◌ {A = Option ℤ} None (Some step) = e in cc)
 step_there (group_kind.DateHistogram ms) step v e = ap (λ s. value.Date (low_end s v)) (same_Some ms step e)
 
-first_part : (d : Doc) (group : Group) (field : List ℕ) (step v : ℤ) → value_of d field ≡ Some (value.Date v) → step_for field group ≡ Some step → part_of d group ≡ Some (value.Date (low_end step v))
+first_part : (d : Doc) (group : Group) (field : List ℕ) (step v : ℤ) → value_of d field ≡ Some (value.Date v) → step_for field group ≡ Some step
+    → part_of d group ≡ Some (value.Date (low_end step v))
 first_part d group field step v found e =
     elim (bytes_eq group.field field) as (λ b. bytes_eq group.field field ≡ b → cond b (step_of group.kind) None ≡ Some step → part_of d group ≡ Some (value.Date (low_end step v))) [
       | true ↦ λ s f. ap (part_from group) (ap (value_of d) ((bytes_eq-Decides group.field field).0 s) ∙ found) ∙ ap Some (step_there group.kind step v f)
@@ -77,13 +78,15 @@ first_part d group field step v found e =
     ] refl e
 
 -- parts that are there are those of the first group and of the others
-parts_there : (o : Option Value) (rest : Option (List Value)) (parts : List Value) → option_and_then (λ part. option_map (λ more. part ∷ more) rest) o ≡ Some parts
+parts_there : (o : Option Value) (rest : Option (List Value)) (parts : List Value)
+    → option_and_then (λ part. option_map (λ more. part ∷ more) rest) o ≡ Some parts
     → (v : Value) × ((more : List Value) × ((o ≡ Some v) × ((rest ≡ Some more) × (v ∷ more ≡ parts))))
 parts_there None rest parts e = absurd (let z : ◌≡◌ {A = Option (List Value)} None (Some parts) = e in cc)
 parts_there (Some v) None parts e = absurd (let z : ◌≡◌ {A = Option (List Value)} None (Some parts) = e in cc)
 parts_there (Some v) (Some more) parts e = (v, (more, (refl, (refl, same_Some (v ∷ more) parts e))))
 
-part_is : (d : Doc) (field : List ℕ) (step v : ℤ) (groups : List Group) (parts : List Value) → value_of d field ≡ Some (value.Date v) → first_step field groups ≡ Some step → parts_of d groups ≡ Some parts
+part_is : (d : Doc) (field : List ℕ) (step v : ℤ) (groups : List Group) (parts : List Value) → value_of d field ≡ Some (value.Date v)
+    → first_step field groups ≡ Some step → parts_of d groups ≡ Some parts
     → low_end step v ≡ part_at field groups parts
 part_is d field step v [] parts found e p = absurd (let z : ◌≡◌ {A = Option ℤ} None (Some step) = e in cc)
 part_is d field step v (group ∷ groups) parts found e p =
@@ -114,7 +117,8 @@ part_by (Some sync) s k = part_at sync.field (groups_of s) k.parts
 abbrev step_by : Bool → Option SyncTime → Shape → Option ℤ
 step_by align o s = if align then option_and_then (λ (sync : SyncTime). first_step sync.field (groups_of s)) o else None
 
-of_key_by : (align : Bool) (o : Option SyncTime) (s : Shape) (step v : ℤ) (k : Key) (d : Doc) → step_by align o s ≡ Some step → is_among (listed (key_by s d)) k ≡ true
+of_key_by : (align : Bool) (o : Option SyncTime) (s : Shape) (step v : ℤ) (k : Key) (d : Doc) → step_by align o s ≡ Some step
+    → is_among (listed (key_by s d)) k ≡ true
     → option_and_then date_of (option_and_then (λ (sync : SyncTime). value_of d sync.field) o) ≡ Some v → low_end step v ≡ part_by o s k
 of_key_by false o s step v k d e has_it found = absurd (let z : ◌≡◌ {A = Option ℤ} None (Some step) = e in cc)
 of_key_by true None s step v k d e has_it found = absurd (let z : ◌≡◌ {A = Option ℤ} None (Some step) = e in cc)
@@ -134,7 +138,8 @@ continuous : (align : Bool) (o : Option SyncTime) (s : Shape) (step : ℤ) → s
 continuous align None s step e = absurd (no_step align s step e)
 continuous align (Some sync) s step e = refl
 
-bounds_by : (c : Config) (step moment v : ℤ) → align_step c ≡ Some step → pos 0 <ℤ step → (o : Option SyncTime) → c.sync ≡ o → aligned_by c o moment ≤ℤ v → aligned_by c o moment ≤ℤ low_end step v
+bounds_by : (c : Config) (step moment v : ℤ) → align_step c ≡ Some step → pos 0 <ℤ step → (o : Option SyncTime) → c.sync ≡ o
+    → aligned_by c o moment ≤ℤ v → aligned_by c o moment ≤ℤ low_end step v
 unfolding aligned
 bounds_by c step moment v e some None is below = absurd (no_step c.align c.shape step (ap (λ o. step_by c.align o c.shape) (sym is) ∙ e))
 bounds_by c step moment v e some (Some sync) is below =
@@ -145,7 +150,8 @@ bounds_by c step moment v e some (Some sync) is below =
 abbrev fits : Meaning → Doc → Bool
 fits m d = is_not_early (m.sync d)
 
-configured_is_aligned : (sources : List ℕ) (c : Config) (step : ℤ) → align_step c ≡ Some step → pos 0 <ℤ step → IsAligned (meaning sources c) (fits (meaning sources c)) (part_by c.sync c.shape) (low_end step)
+configured_is_aligned : (sources : List ℕ) (c : Config) (step : ℤ) → align_step c ≡ Some step → pos 0 <ℤ step
+    → IsAligned (meaning sources c) (fits (meaning sources c)) (part_by c.sync c.shape) (low_end step)
 unfolding keys_of key_of
 configured_is_aligned sources c step e some = record {
   of_key = λ k d fit has_it v found. of_key_by c.align c.sync c.shape step v k d e has_it found;

@@ -40,7 +40,8 @@ all_pass : (keys : List Key) → filter (is_after None) keys ≡ keys
 all_pass [] = refl
 all_pass (k ∷ keys) = ap (λ ks. k ∷ ks) (all_pass keys)
 
-begun : (c : Meaning) (b : Checkpoint) (checkpoints : List Checkpoint) (finished : ℕ) → 0 < c.page_size → finished ≡ length checkpoints → Phase c (b ∷ checkpoints) finished 0 None
+begun : (c : Meaning) (b : Checkpoint) (checkpoints : List Checkpoint) (finished : ℕ) → 0 < c.page_size → finished ≡ length checkpoints
+    → Phase c (b ∷ checkpoints) finished 0 None
 begun c b checkpoints finished size idle = inr (idle, let none : 0 ≡ 0 * c.page_size = omega arith in record { left = all_pass (changed c (b ∷ checkpoints)) ∙ ap (λ n. drop n (changed c (b ∷ checkpoints))) none; room = omega arith })
 
 -- something is left where a page of it has a row
@@ -58,7 +59,9 @@ left_some n size [] page some e = absurd (none size n page some e)
 left_some zero size (k ∷ keys) page some e = omega arith
 left_some (suc n) size (k ∷ keys) page some e = let h : n < length keys = left_some n size keys page some e in omega arith
 
-paging : (c : Meaning) (checkpoints : List Checkpoint) (page : List Row) (pages : ℕ) (position : Option Key) → 0 < length page → map Some page ≡ map (row_of c (counted_last c checkpoints)) (take c.page_size (filter (is_after position) (changed c checkpoints))) → Paging (changed c checkpoints) c.page_size pages position → Paging (changed c checkpoints) c.page_size (pages + 1) (last_key page)
+paging : (c : Meaning) (checkpoints : List Checkpoint) (page : List Row) (pages : ℕ) (position : Option Key) → 0 < length page
+    → map Some page ≡ map (row_of c (counted_last c checkpoints)) (take c.page_size (filter (is_after position) (changed c checkpoints)))
+    → Paging (changed c checkpoints) c.page_size pages position → Paging (changed c checkpoints) c.page_size (pages + 1) (last_key page)
 paging c checkpoints page pages position some right p = at_last (last_key page) refl
   where
     docs : List Doc
@@ -79,7 +82,10 @@ paging c checkpoints page pages position some right p = at_last (last_key page) 
           room = omega arith;
         }
 
-paged : (c : Meaning) (checkpoints : List Checkpoint) (n finished pages : ℕ) (page : List Row) (position : Option Key) → n ≡ finished + 1 → n ≡ length checkpoints → 0 < length page → map Some page ≡ map (row_of c (counted_last c checkpoints)) (take c.page_size (filter (is_after position) (changed c checkpoints))) → Phase c checkpoints finished pages position → Phase c checkpoints finished (pages + 1) (last_key page)
+paged : (c : Meaning) (checkpoints : List Checkpoint) (n finished pages : ℕ) (page : List Row) (position : Option Key) → n ≡ finished + 1
+    → n ≡ length checkpoints → 0 < length page
+    → map Some page ≡ map (row_of c (counted_last c checkpoints)) (take c.page_size (filter (is_after position) (changed c checkpoints)))
+    → Phase c checkpoints finished pages position → Phase c checkpoints finished (pages + 1) (last_key page)
 paged c [] n finished pages page position m k some right h = absurd (omega arith)
 paged c (b ∷ before) n finished pages page position m k some right h =
     elim h [ inl i ↦ absurd (let z = i.0 in omega arith) | inr r ↦ inr (r.0, paging c (b ∷ before) page pages position some right r.1) ]
@@ -87,7 +93,8 @@ paged c (b ∷ before) n finished pages page position m k some right h =
 dropped : (n : ℕ) (keys : List Key) → drop n keys ≡ [] → length keys ≤ n
 dropped n keys e = omega (arith, length-drop n keys, ap length e)
 
-done : (c : Meaning) (checkpoints : List Checkpoint) (n finished pages : ℕ) (position : Option Key) → n ≡ finished + 1 → n ≡ length checkpoints → filter (is_after position) (changed c checkpoints) ≡ [] → Phase c checkpoints finished pages position → Phase c checkpoints n pages position
+done : (c : Meaning) (checkpoints : List Checkpoint) (n finished pages : ℕ) (position : Option Key) → n ≡ finished + 1 → n ≡ length checkpoints
+    → filter (is_after position) (changed c checkpoints) ≡ [] → Phase c checkpoints finished pages position → Phase c checkpoints n pages position
 done c [] n finished pages position m k none h = absurd (omega arith)
 done c (b ∷ before) n finished pages position m k none h =
     inl (k, elim h [ inl i ↦ absurd (let z = i.0 in omega arith) | inr r ↦ record { enough = dropped (pages * c.page_size) (changed c (b ∷ before)) (sym r.1.left ∙ none); room = r.1.room } ])
@@ -109,7 +116,9 @@ rounded_up n size pages some enough room =
     let high : (n + (size - 1)) / size < pages + 1 = div_below (n + (size - 1)) size (pages + 1) some (omega arith) in
     omega arith
 
-exact : (c : Meaning) (checkpoints : List Checkpoint) (finished pages : ℕ) (position : Option Key) → 0 < c.page_size → 0 < finished → finished ≡ length checkpoints → Phase c checkpoints finished pages position → pages ≡ (length (changed c checkpoints) + (c.page_size - 1)) / c.page_size
+exact : (c : Meaning) (checkpoints : List Checkpoint) (finished pages : ℕ) (position : Option Key) → 0 < c.page_size → 0 < finished
+    → finished ≡ length checkpoints → Phase c checkpoints finished pages position
+    → pages ≡ (length (changed c checkpoints) + (c.page_size - 1)) / c.page_size
 exact c [] finished pages position size some idle h = absurd (omega arith)
 exact c (b ∷ before) finished pages position size some idle h =
     elim h [ inl i ↦ rounded_up (length (changed c (b ∷ before))) c.page_size pages size i.1.enough i.1.room | inr r ↦ absurd (let z = r.0 in omega arith) ]

@@ -35,7 +35,8 @@ more_begin : (checkpoints : List Checkpoint) (docs new : List Doc) → AllBegin 
 more_begin [] docs new h = tt
 more_begin (b ∷ before) docs new h = ((h.0.0 ++ new, ap (λ ds. ds ++ new) h.0.1 ∙ append_assoc b.read h.0.0 new), more_begin before docs new h.1)
 
-written_more : (c : Meaning) (past : List Event) (new : List Doc) (checkpoints : List Checkpoint) → AllBegin checkpoints (written c past) → AllBegin checkpoints (from_sources c (documents past ++ new))
+written_more : (c : Meaning) (past : List Event) (new : List Doc) (checkpoints : List Checkpoint) → AllBegin checkpoints (written c past)
+    → AllBegin checkpoints (from_sources c (documents past ++ new))
 written_more c past new checkpoints h = subst (AllBegin checkpoints) (sym (filter-append (λ d. c.is_source d.index) (documents past) new)) (more_begin checkpoints (written c past) (from_sources c new) h)
 
 pub kept : IsKept (λ _ _. ⊤) ReadsHold
@@ -64,11 +65,14 @@ first_is_scratch past t l b sound idle only =
     ∙ (sym (keep_same l.meaning b.read (written l.meaning past) (cutoff l.meaning l.checkpoints) (last_row l.meaning (b ∷ []) k) (steady k (is_among (all_keys l.meaning (counted l.meaning b.bound b.read)) k) reads.0))
     ∙ ap (keep (stays l.meaning b.read (cutoff l.meaning l.checkpoints))) (ap (λ t. cond t (row_of l.meaning (counted l.meaning b.bound b.read) k) None) (is_among-all_keys l.meaning k (counted l.meaning b.bound b.read))))))
   where
-    steady : (k : Key) (t : Bool) → ((rest : List Doc) × (written l.meaning past ≡ b.read ++ rest)) → (r : Row) → cond t (row_of l.meaning (counted l.meaning b.bound b.read) k) None ≡ Some r → l.meaning.retained (written l.meaning past) r ≡ l.meaning.retained b.read r
+    steady : (k : Key) (t : Bool) → ((rest : List Doc) × (written l.meaning past ≡ b.read ++ rest)) → (r : Row)
+        → cond t (row_of l.meaning (counted l.meaning b.bound b.read) k) None ≡ Some r
+        → l.meaning.retained (written l.meaning past) r ≡ l.meaning.retained b.read r
     steady k true w r e = ap (λ ds. l.meaning.retained ds r) w.1 ∙ sound.steady b.read w.0 b.bound k r e
     steady k false w r e = absurd (let z : ◌≡◌ {A = Option Row} None (Some r) = e in cc)
 
-batch_one : (c : Meaning) (checkpoints : List Checkpoint) (cut : Option ℤ) (rows : List Row) → 0 < length checkpoints → IsOne checkpoints → ((b : Checkpoint) → checkpoints ≡ b ∷ [] → rows ≡ scratch c b.bound cut b.read) → rows ≡ scratch c None cut (read_last checkpoints)
+batch_one : (c : Meaning) (checkpoints : List Checkpoint) (cut : Option ℤ) (rows : List Row) → 0 < length checkpoints → IsOne checkpoints
+    → ((b : Checkpoint) → checkpoints ≡ b ∷ [] → rows ≡ scratch c b.bound cut b.read) → rows ≡ scratch c None cut (read_last checkpoints)
 batch_one c [] cut rows some one h = absurd (omega arith)
 batch_one c (b ∷ before) cut rows some one h = h b (ap (λ cs. b ∷ cs) one.0) ∙ ap (λ o. scratch c o cut b.read) one.1
 

@@ -61,7 +61,9 @@ row_at-put_row k r (s ∷ rows) =
     ] refl
 
 -- the rows of a page, as f makes them, over what was there
-pub row_at-put_rows : (f : Key → Option Row) → ((j : Key) (r : Row) → f j ≡ Some r → (row_key r) ≡ j) → (k : Key) (page : List Row) (keys : List Key) (rows : List Row) → map Some page ≡ map f keys → row_at k (put_rows page rows) ≡ cond (is_among keys k) (f k) (row_at k rows)
+pub row_at-put_rows : (f : Key → Option Row) → ((j : Key) (r : Row) → f j ≡ Some r → (row_key r) ≡ j)
+    → (k : Key) (page : List Row) (keys : List Key) (rows : List Row) → map Some page ≡ map f keys
+    → row_at k (put_rows page rows) ≡ cond (is_among keys k) (f k) (row_at k rows)
 row_at-put_rows f keyed k [] [] rows e = refl
 row_at-put_rows f keyed k [] (j ∷ keys) rows e = absurd (let g : ◌≡◌ {A = List (Option Row)} [] (f j ∷ map f keys) = e in cc)
 row_at-put_rows f keyed k (r ∷ page) [] rows e = absurd (let g : ◌≡◌ {A = List (Option Row)} (Some r ∷ map Some page) [] = e in cc)
@@ -78,7 +80,8 @@ row_at-put_rows f keyed k (r ∷ page) (j ∷ keys) rows e =
     pick true false x y h z = h refl
     pick false d x y h z = refl
 
-    merge : f j ≡ Some r → cond (is_among keys k) (f k) (cond (is_eq (key_cmp k j)) (Some r) (row_at k rows)) ≡ cond (is_eq (key_cmp k j) || is_among keys k) (f k) (row_at k rows)
+    merge : f j ≡ Some r
+        → cond (is_among keys k) (f k) (cond (is_eq (key_cmp k j)) (Some r) (row_at k rows)) ≡ cond (is_eq (key_cmp k j) || is_among keys k) (f k) (row_at k rows)
     merge head = pick (is_eq (key_cmp k j)) (is_among keys k) (Some r) (f k) (λ b. sym head ∙ ap f (sym (keys_exact k j (equal_from _ b)))) (row_at k rows)
 
 -- a key below all of a list's keys is none of them
@@ -116,7 +119,8 @@ row_at_keep p k (r ∷ rows) h =
       | false ↦ row_at_below k (filter p rows) (subst (λ x. IsBelowAll x (keys_in (filter p rows))) (sym (keys_exact k (row_key r) (equal_from _ e))) (below_keep p (row_key r) rows h.0))
     ]
 
-    there : is_eq (key_cmp k (row_key r)) ≡ false → row_at k (filter p rows) ≡ keep p (row_at k rows) → row_at k (cond (p r) (r ∷ filter p rows) (filter p rows)) ≡ keep p (row_at k rows)
+    there : is_eq (key_cmp k (row_key r)) ≡ false → row_at k (filter p rows) ≡ keep p (row_at k rows)
+        → row_at k (cond (p r) (r ∷ filter p rows) (filter p rows)) ≡ keep p (row_at k rows)
     there e rest = elim (p r) as (λ b. row_at k (cond b (r ∷ filter p rows) (filter p rows)) ≡ keep p (row_at k rows)) [
       | true ↦ ap (λ b. cond b (Some r) (row_at k (filter p rows))) e ∙ rest
       | false ↦ rest
@@ -161,7 +165,8 @@ same_rows (r ∷ xs) (s ∷ ys) h g e =
         ] refl
 
 -- the rows that f makes of ascending keys
-below_made : (f : Key → Option Row) → ((j : Key) (r : Row) → f j ≡ Some r → (row_key r) ≡ j) → (k : Key) (keys : List Key) → IsBelowAll k keys → IsBelowAll k (keys_in (filter_map f keys))
+below_made : (f : Key → Option Row) → ((j : Key) (r : Row) → f j ≡ Some r → (row_key r) ≡ j) → (k : Key) (keys : List Key) → IsBelowAll k keys
+    → IsBelowAll k (keys_in (filter_map f keys))
 below_made f keyed k [] h = tt
 below_made f keyed k (j ∷ keys) h =
     elim (f j) as (λ o. f j ≡ o → IsBelowAll k (keys_in (cons_option o (filter_map f keys)))) [
@@ -169,7 +174,8 @@ below_made f keyed k (j ∷ keys) h =
       | Some r ↦ λ e. (subst (λ x. key_cmp k x ≡ Less) (sym (keyed j r e)) h.0, below_made f keyed k keys h.1)
     ] refl
 
-pub ascending_made : (f : Key → Option Row) → ((j : Key) (r : Row) → f j ≡ Some r → (row_key r) ≡ j) → (keys : List Key) → IsAscending keys → IsAscending (keys_in (filter_map f keys))
+pub ascending_made : (f : Key → Option Row) → ((j : Key) (r : Row) → f j ≡ Some r → (row_key r) ≡ j) → (keys : List Key) → IsAscending keys
+    → IsAscending (keys_in (filter_map f keys))
 ascending_made f keyed [] h = tt
 ascending_made f keyed (j ∷ keys) h =
     elim (f j) as (λ o. f j ≡ o → IsAscending (keys_in (cons_option o (filter_map f keys)))) [
@@ -177,7 +183,8 @@ ascending_made f keyed (j ∷ keys) h =
       | Some r ↦ λ e. (subst (λ x. IsBelowAll x (keys_in (filter_map f keys))) (sym (keyed j r e)) (below_made f keyed j keys h.0), ascending_made f keyed keys h.1)
     ] refl
 
-pub row_at_made : (f : Key → Option Row) → ((j : Key) (r : Row) → f j ≡ Some r → (row_key r) ≡ j) → (k : Key) (keys : List Key) → IsAscending keys → row_at k (filter_map f keys) ≡ cond (is_among keys k) (f k) None
+pub row_at_made : (f : Key → Option Row) → ((j : Key) (r : Row) → f j ≡ Some r → (row_key r) ≡ j) → (k : Key) (keys : List Key) → IsAscending keys
+    → row_at k (filter_map f keys) ≡ cond (is_among keys k) (f k) None
 row_at_made f keyed k [] h = refl
 row_at_made f keyed k (j ∷ keys) h =
     elim (is_eq (key_cmp k j)) as (λ b. is_eq (key_cmp k j) ≡ b → row_at k (cons_option (f j) (filter_map f keys)) ≡ cond (b || is_among keys k) (f k) None) [
@@ -189,12 +196,14 @@ row_at_made f keyed k (j ∷ keys) h =
     here None t = row_at_below j (filter_map f keys) (below_made f keyed j keys h.0) ∙ sym t
     here (Some r) t = ap (λ o. cond (is_eq o) (Some r) (row_at j (filter_map f keys))) (subst (λ x. key_cmp j x ≡ Equal) (sym (keyed j r t)) (cmp_itself j)) ∙ sym t
 
-    there : is_eq (key_cmp k j) ≡ false → (o : Option Row) → f j ≡ o → row_at k (filter_map f keys) ≡ cond (is_among keys k) (f k) None → row_at k (cons_option o (filter_map f keys)) ≡ cond (is_among keys k) (f k) None
+    there : is_eq (key_cmp k j) ≡ false → (o : Option Row) → f j ≡ o → row_at k (filter_map f keys) ≡ cond (is_among keys k) (f k) None
+        → row_at k (cons_option o (filter_map f keys)) ≡ cond (is_among keys k) (f k) None
     there e None t rest = rest
     there e (Some r) t rest = ap (λ b. cond b (Some r) (row_at k (filter_map f keys))) (subst (λ x. is_eq (key_cmp k x) ≡ false) (sym (keyed j r t)) e) ∙ rest
 
 -- the keys of a page, as f makes its rows
-pub keys_from : (f : Key → Option Row) → ((j : Key) (r : Row) → f j ≡ Some r → (row_key r) ≡ j) → (page : List Row) (keys : List Key) → map Some page ≡ map f keys → keys_in page ≡ keys
+pub keys_from : (f : Key → Option Row) → ((j : Key) (r : Row) → f j ≡ Some r → (row_key r) ≡ j) → (page : List Row) (keys : List Key)
+    → map Some page ≡ map f keys → keys_in page ≡ keys
 keys_from f keyed [] [] e = refl
 keys_from f keyed [] (j ∷ keys) e = absurd (let g : ◌≡◌ {A = List (Option Row)} [] (f j ∷ map f keys) = e in cc)
 keys_from f keyed (r ∷ page) [] e = absurd (let g : ◌≡◌ {A = List (Option Row)} (Some r ∷ map Some page) [] = e in cc)

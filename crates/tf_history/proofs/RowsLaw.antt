@@ -35,10 +35,12 @@ more_settled c [] docs new h = tt
 more_settled c (b ∷ before) docs new h =
     (λ k r more e. ap (λ ds. c.retained ds r) (append_assoc docs new more) ∙ (h.0 k r (new ++ more) e ∙ sym (h.0 k r new e)), more_settled c before docs new h.1)
 
-begin_settled : (c : Meaning) → IsSteady c → (b : Checkpoint) (checkpoints : List Checkpoint) → AllSettled c checkpoints b.read → AllSettled c (b ∷ checkpoints) b.read
+begin_settled : (c : Meaning) → IsSteady c → (b : Checkpoint) (checkpoints : List Checkpoint) → AllSettled c checkpoints b.read
+    → AllSettled c (b ∷ checkpoints) b.read
 begin_settled c steady b checkpoints h = (here, h)
   where
-    old : (before : List Checkpoint) → AllSettled c before b.read → (k : Key) (r : Row) (more : List Doc) → last_row c before k ≡ Some r → c.retained (b.read ++ more) r ≡ c.retained b.read r
+    old : (before : List Checkpoint) → AllSettled c before b.read → (k : Key) (r : Row) (more : List Doc) → last_row c before k ≡ Some r
+        → c.retained (b.read ++ more) r ≡ c.retained b.read r
     old [] g k r more e = absurd (let z : ◌≡◌ {A = Option Row} None (Some r) = e in cc)
     old (a ∷ before) g k r more e = g.0 k r more e
 
@@ -49,7 +51,8 @@ begin_settled c steady b checkpoints h = (here, h)
           | false ↦ λ e. old checkpoints h k r more e
         ]
 
-settled_keep : (c : Meaning) (checkpoints : List Checkpoint) (docs new : List Doc) (cut : Option ℤ) (k : Key) → AllSettled c checkpoints docs → keep (stays c docs cut) (last_row c checkpoints k) ≡ keep (stays c (docs ++ new) cut) (last_row c checkpoints k)
+settled_keep : (c : Meaning) (checkpoints : List Checkpoint) (docs new : List Doc) (cut : Option ℤ) (k : Key) → AllSettled c checkpoints docs
+    → keep (stays c docs cut) (last_row c checkpoints k) ≡ keep (stays c (docs ++ new) cut) (last_row c checkpoints k)
 settled_keep c [] docs new cut k h = refl
 settled_keep c (b ∷ before) docs new cut k h = keep_same c docs (docs ++ new) cut (last_row c (b ∷ before) k) (λ r e. h.0 k r new e)
 
@@ -62,7 +65,8 @@ pub record IdleRows (c : Meaning) (docs : List Doc) (checkpoints : List Checkpoi
 -- in the middle of a checkpoint
 pub record RunningRows (c : Meaning) (docs : List Doc) (b : Checkpoint) (before : List Checkpoint) (finished : ℕ) (position : Option Key) (rows : List Row) : Type 0 where
   pub count : finished ≡ length before
-  pub each : (k : Key) → row_at k rows ≡ cond (is_among (changed c (b ∷ before)) k && not (is_after position k)) (row_of c (counted c b.bound b.read) k) (keep (stays c docs (cutoff c before)) (last_row c before k))
+  pub each : (k : Key)
+      → row_at k rows ≡ cond (is_among (changed c (b ∷ before)) k && not (is_after position k)) (row_of c (counted c b.bound b.read) k) (keep (stays c docs (cutoff c before)) (last_row c before k))
 
 abbrev pub IsRunningRows : Meaning → List Doc → List Checkpoint → ℕ → Option Key → List Row → Type 0
 IsRunningRows c docs [] finished position rows = ⊥
@@ -78,7 +82,8 @@ abbrev pub LifeRowsHold : List Doc → Life → Type 0
 LifeRowsHold docs l = IsSteady l.meaning → RowsHold l.meaning (from_sources l.meaning docs) l.checkpoints l.finished l.position l.rows
 
 -- ---- a Write
-grown : (c : Meaning) (docs new : List Doc) (checkpoints : List Checkpoint) (finished : ℕ) (position : Option Key) (rows : List Row) → RowsHold c docs checkpoints finished position rows → RowsHold c (docs ++ new) checkpoints finished position rows
+grown : (c : Meaning) (docs new : List Doc) (checkpoints : List Checkpoint) (finished : ℕ) (position : Option Key) (rows : List Row)
+    → RowsHold c docs checkpoints finished position rows → RowsHold c (docs ++ new) checkpoints finished position rows
 grown c docs new checkpoints finished position rows h =
     record {
       ascending = h.ascending;
@@ -89,12 +94,14 @@ grown c docs new checkpoints finished position rows h =
       ];
     }
   where
-    running : (cs : List Checkpoint) → AllSettled c cs docs → IsRunningRows c docs cs finished position rows → IsRunningRows c (docs ++ new) cs finished position rows
+    running : (cs : List Checkpoint) → AllSettled c cs docs → IsRunningRows c docs cs finished position rows
+        → IsRunningRows c (docs ++ new) cs finished position rows
     running [] g r = r
     running (b ∷ before) g r = record { count = r.count; each = λ k. r.each k ∙ ap (λ o. cond (is_among (changed c (b ∷ before)) k && not (is_after position k)) (row_of c (counted c b.bound b.read) k) o) (settled_keep c before docs new (cutoff c before) k g.1) }
 
 -- ---- a Begin
-begun : (c : Meaning) (b : Checkpoint) (checkpoints : List Checkpoint) (finished : ℕ) (position : Option Key) (rows : List Row) → IsSteady c → finished ≡ length checkpoints → RowsHold c b.read checkpoints finished position rows → RowsHold c b.read (b ∷ checkpoints) finished None rows
+begun : (c : Meaning) (b : Checkpoint) (checkpoints : List Checkpoint) (finished : ℕ) (position : Option Key) (rows : List Row) → IsSteady c
+    → finished ≡ length checkpoints → RowsHold c b.read checkpoints finished position rows → RowsHold c b.read (b ∷ checkpoints) finished None rows
 begun c b checkpoints finished position rows steady idle h =
     record { ascending = h.ascending; settled = begin_settled c steady b checkpoints h.settled; phase = inr (elim h.phase [ inl i ↦ now i | inr r ↦ absurd (clash checkpoints idle r) ]) }
   where
@@ -110,7 +117,8 @@ begun c b checkpoints finished position rows steady idle h =
     now i = record { count = i.count; each = λ k. i.each k ∙ never (is_among (changed c (b ∷ checkpoints)) k) (row_of c (counted c b.bound b.read) k) (keep (stays c b.read (cutoff c checkpoints)) (last_row c checkpoints k)) }
 
 -- ---- a Page
-paged_tests : (t d ch a b : Bool) (x y : Option Row) → (ch && a) ≡ (t || d) → (ch && b) ≡ d → (t ≡ true → d ≡ false) → cond t x (cond (ch && not a) x y) ≡ cond (ch && not b) x y
+paged_tests : (t d ch a b : Bool) (x y : Option Row) → (ch && a) ≡ (t || d) → (ch && b) ≡ d → (t ≡ true → d ≡ false)
+    → cond t x (cond (ch && not a) x y) ≡ cond (ch && not b) x y
 paged_tests true true ch a b x y e f g = absurd (let z : true ≡ false = g refl in cc)
 paged_tests true false true a true x y e f g = absurd (let z : true ≡ false = f in cc)
 paged_tests true false true a false x y e f g = refl
@@ -123,7 +131,9 @@ filled [] h e = omega arith
 filled (r ∷ []) h e = let f : ◌≡◌ {A = Option Key} (Some (row_key r)) None = e in cc
 filled (r ∷ s ∷ rows) h e = filled (s ∷ rows) (omega arith) e
 
-paged : (c : Meaning) (docs : List Doc) (b : Checkpoint) (before : List Checkpoint) (finished : ℕ) (position : Option Key) (rows page : List Row) (size : ℕ) → 0 < length page → map Some page ≡ map (row_of c (counted c b.bound b.read)) (take size (filter (is_after position) (changed c (b ∷ before)))) → RunningRows c docs b before finished position rows → RunningRows c docs b before finished (last_key page) (put_rows page rows)
+paged : (c : Meaning) (docs : List Doc) (b : Checkpoint) (before : List Checkpoint) (finished : ℕ) (position : Option Key) (rows page : List Row) (size : ℕ)
+    → 0 < length page → map Some page ≡ map (row_of c (counted c b.bound b.read)) (take size (filter (is_after position) (changed c (b ∷ before))))
+    → RunningRows c docs b before finished position rows → RunningRows c docs b before finished (last_key page) (put_rows page rows)
 paged c docs b before finished position rows page size some right r =
     record { count = r.count; each = last_case (last_key page) refl }
   where
@@ -139,7 +149,8 @@ paged c docs b before finished position rows page size some right r =
     page_keys : keys_in page ≡ take size (filter (is_after position) (changed c (b ∷ before)))
     page_keys = keys_from (row_of c (counted c b.bound b.read)) (keyed c (counted c b.bound b.read)) page (take size (filter (is_after position) (changed c (b ∷ before)))) right
 
-    last_case : (o : Option Key) → last_key page ≡ o → (k : Key) → row_at k (put_rows page rows) ≡ cond (is_among (changed c (b ∷ before)) k && not (is_after o k)) (row_of c (counted c b.bound b.read) k) (keep (stays c docs (cutoff c before)) (last_row c before k))
+    last_case : (o : Option Key) → last_key page ≡ o → (k : Key)
+        → row_at k (put_rows page rows) ≡ cond (is_among (changed c (b ∷ before)) k && not (is_after o k)) (row_of c (counted c b.bound b.read) k) (keep (stays c docs (cutoff c before)) (last_row c before k))
     last_case None e k = absurd (filled page some e)
     last_case (Some last) e k =
         let end : last_of (take size left) ≡ Some last = ap last_of (sym page_keys) ∙ (sym (last_key-keys page) ∙ e) in
@@ -151,7 +162,10 @@ paged c docs b before finished position rows page size some right r =
         (sym (is_among-filter (is_after (Some last)) k keys) ∙ ap (λ ks. is_among ks k) rest)
         (front_apart size k left (ascending_filter (is_after position) keys (ascending-all_keys c (window c (b ∷ before))))))
 
-paged_hold : (c : Meaning) (docs : List Doc) (checkpoints : List Checkpoint) (n finished : ℕ) (position : Option Key) (rows page : List Row) (size : ℕ) → n ≡ finished + 1 → n ≡ length checkpoints → 0 < length page → map Some page ≡ map (row_of c (counted_last c checkpoints)) (take size (filter (is_after position) (changed c checkpoints))) → RowsHold c docs checkpoints finished position rows → RowsHold c docs checkpoints finished (last_key page) (put_rows page rows)
+paged_hold : (c : Meaning) (docs : List Doc) (checkpoints : List Checkpoint) (n finished : ℕ) (position : Option Key) (rows page : List Row) (size : ℕ)
+    → n ≡ finished + 1 → n ≡ length checkpoints → 0 < length page
+    → map Some page ≡ map (row_of c (counted_last c checkpoints)) (take size (filter (is_after position) (changed c checkpoints)))
+    → RowsHold c docs checkpoints finished position rows → RowsHold c docs checkpoints finished (last_key page) (put_rows page rows)
 paged_hold c docs [] n finished position rows page size m k some right h = absurd (omega arith)
 paged_hold c docs (b ∷ before) n finished position rows page size m k some right h =
     record {
@@ -161,12 +175,15 @@ paged_hold c docs (b ∷ before) n finished position rows page size m k some rig
     }
 
 -- ---- a Finish
-finish_tests : (p q : Row → Bool) (ch a : Bool) (x y : Option Row) → (ch && a) ≡ false → keep p (keep q y) ≡ keep p y → keep p (cond (ch && not a) x (keep q y)) ≡ keep p (cond ch x y)
+finish_tests : (p q : Row → Bool) (ch a : Bool) (x y : Option Row) → (ch && a) ≡ false → keep p (keep q y) ≡ keep p y
+    → keep p (cond (ch && not a) x (keep q y)) ≡ keep p (cond ch x y)
 finish_tests p q true true x y e f = absurd (let z : true ≡ false = e in cc)
 finish_tests p q true false x y e f = refl
 finish_tests p q false a x y e f = f
 
-done : (c : Meaning) (docs : List Doc) (b : Checkpoint) (before : List Checkpoint) (n finished : ℕ) (position : Option Key) (rows : List Row) → n ≡ length (b ∷ before) → filter (is_after position) (changed c (b ∷ before)) ≡ [] → IsAscending (keys_in rows) → RunningRows c docs b before finished position rows → IdleRows c docs (b ∷ before) n (filter (stays c docs (cutoff c (b ∷ before))) rows)
+done : (c : Meaning) (docs : List Doc) (b : Checkpoint) (before : List Checkpoint) (n finished : ℕ) (position : Option Key) (rows : List Row)
+    → n ≡ length (b ∷ before) → filter (is_after position) (changed c (b ∷ before)) ≡ [] → IsAscending (keys_in rows)
+    → RunningRows c docs b before finished position rows → IdleRows c docs (b ∷ before) n (filter (stays c docs (cutoff c (b ∷ before))) rows)
 done c docs b before n finished position rows count none ascending r =
     record {
       count = count;
@@ -177,7 +194,9 @@ done c docs b before n finished position rows count none ascending r =
           (keep_later c docs b before (last_row c before k)));
     }
 
-done_hold : (c : Meaning) (docs : List Doc) (checkpoints : List Checkpoint) (n finished : ℕ) (position : Option Key) (rows : List Row) → n ≡ finished + 1 → n ≡ length checkpoints → filter (is_after position) (changed c checkpoints) ≡ [] → RowsHold c docs checkpoints finished position rows → RowsHold c docs checkpoints n position (filter (stays c docs (cutoff c checkpoints)) rows)
+done_hold : (c : Meaning) (docs : List Doc) (checkpoints : List Checkpoint) (n finished : ℕ) (position : Option Key) (rows : List Row)
+    → n ≡ finished + 1 → n ≡ length checkpoints → filter (is_after position) (changed c checkpoints) ≡ []
+    → RowsHold c docs checkpoints finished position rows → RowsHold c docs checkpoints n position (filter (stays c docs (cutoff c checkpoints)) rows)
 done_hold c docs [] n finished position rows m k none h = absurd (omega arith)
 done_hold c docs (b ∷ before) n finished position rows m k none h =
     record {
@@ -193,7 +212,8 @@ fresh_hold c docs steady = record { ascending = tt; settled = tt; phase = inl (r
 same_docs : (l : Life) (docs now : List Doc) → now ≡ docs ++ [] → LifeRowsHold docs l → LifeRowsHold now l
 same_docs l docs now e h = subst (λ ds. LifeRowsHold ds l) (sym (e ∙ append-nil docs)) h
 
-step : (docs now : List Doc) (a : Act) (o : Option Life) (P : Type 0) → now ≡ docs ++ act_writes a → MayAct a o → RightAct a o P → (P → IfSome o (LifeRowsHold docs)) → IfSome (life_after docs a o) (LifeRowsHold now)
+step : (docs now : List Doc) (a : Act) (o : Option Life) (P : Type 0) → now ≡ docs ++ act_writes a → MayAct a o → RightAct a o P
+    → (P → IfSome o (LifeRowsHold docs)) → IfSome (life_after docs a o) (LifeRowsHold now)
 step docs now (Opens c) o P e m r h = fresh_hold c now
 step docs now Reopens None P e m r h = tt
 step docs now Reopens (Some l) P e m r h = fresh_hold l.meaning now

@@ -107,7 +107,8 @@ module _ (reading : Reading) (stamps : ReadsStamps reading) (sources : List ℕ)
   stamped_kind past rest moment (kind.Page id n rows) front fits d e source = absurd (let z : ◌≡◌ {A = Deed} (Page id n rows) (Write d) = e in cc)
   stamped_kind past rest moment (kind.Finish id n) front fits d e source = absurd (let z : ◌≡◌ {A = Deed} (Finish id n) (Write d) = e in cc)
 
-  all_stamped : (past : List Entry) (rest : List SourceIndex) → catalogue past ++ rest ≡ whole → IsLegalPast reading past → IsStamped (meaning sources c) (events reading.values_of past)
+  all_stamped : (past : List Entry) (rest : List SourceIndex) → catalogue past ++ rest ≡ whole → IsLegalPast reading past
+      → IsStamped (meaning sources c) (events reading.values_of past)
   all_stamped [] rest front legal = tt
   all_stamped (e ∷ past) rest front legal =
       let before : catalogue past ++ (makes e.kind ++ rest) ≡ whole = sym (append_assoc (catalogue past) (makes e.kind) rest) ∙ front in

@@ -37,7 +37,8 @@ not_late : (checkpoints : List Checkpoint) (moment : ℤ) → AllAtMost checkpoi
 not_late [] moment h = refl
 not_late (b ∷ before) moment h = one b.bound h.0 (not_late before moment h.1)
   where
-    one : (o : Option ℤ) → IsAtMost o moment → list_any (λ a. is_under a.bound (Some moment)) before ≡ false → (is_under o (Some moment) || list_any (λ a. is_under a.bound (Some moment)) before) ≡ false
+    one : (o : Option ℤ) → IsAtMost o moment → list_any (λ a. is_under a.bound (Some moment)) before ≡ false
+        → (is_under o (Some moment) || list_any (λ a. is_under a.bound (Some moment)) before) ≡ false
     one None g rest = rest
     one (Some x) g rest = ap (λ t. t || list_any (λ a. is_under a.bound (Some moment)) before) (not_under x moment g) ∙ rest
 
@@ -54,7 +55,8 @@ below_now : (past : List Event) (checkpoints : List Checkpoint) (moment : ℤ) �
 below_now [] checkpoints moment e h = subst (λ (cs : List Checkpoint). AllAtMost cs moment) (sym h) tt
 below_now (p ∷ past) checkpoints moment e h = all_later checkpoints p.moment moment h e
 
-next_at_most : (c : Meaning) (checkpoints : List Checkpoint) (moment : ℤ) → c.aligned moment ≤ℤ moment → AllAtMost checkpoints moment → IsAtMost (next_bound c (last_bound checkpoints) moment) moment
+next_at_most : (c : Meaning) (checkpoints : List Checkpoint) (moment : ℤ) → c.aligned moment ≤ℤ moment → AllAtMost checkpoints moment
+    → IsAtMost (next_bound c (last_bound checkpoints) moment) moment
 next_at_most c checkpoints moment e h =
     elim c.is_batch as (λ b. IsAtMost (cond b None (Some (risen (last_bound checkpoints) (c.aligned moment)))) moment) [ true ↦ tt | false ↦ cases checkpoints h ]
   where
@@ -66,7 +68,8 @@ next_at_most c checkpoints moment e h =
     cases [] g = e
     cases (b ∷ before) g = with b.bound g.0
 
-late_none : (c : Meaning) (checkpoints : List Checkpoint) (d : Doc) (moment : ℤ) (n : ℕ) → AllAtMost checkpoints moment → (c.is_source d.index ≡ true → c.sync d ≡ Some moment) → n ≡ 0 → cond (is_late c checkpoints d) (n + 1) n ≡ 0
+late_none : (c : Meaning) (checkpoints : List Checkpoint) (d : Doc) (moment : ℤ) (n : ℕ) → AllAtMost checkpoints moment
+    → (c.is_source d.index ≡ true → c.sync d ≡ Some moment) → n ≡ 0 → cond (is_late c checkpoints d) (n + 1) n ≡ 0
 late_none c checkpoints d moment n h stamped zero_is = tests (c.is_source d.index) refl
   where
     and_no : (m t : Bool) → t ≡ false → (m && t) ≡ false

@@ -33,7 +33,8 @@ or_right : (a b : Bool) → b ≡ true → (a || b) ≡ true
 or_right true b e = refl
 or_right false b e = e
 
-picked_one : (p : Doc → Bool) (docs : List Doc) (o : Ordering) (x y d : Doc) → max_by_ordering o x y ≡ d → p d ≡ true → (y ≡ d → list_any p docs ≡ true) → (p x || list_any p docs) ≡ true
+picked_one : (p : Doc → Bool) (docs : List Doc) (o : Ordering) (x y d : Doc) → max_by_ordering o x y ≡ d → p d ≡ true
+    → (y ≡ d → list_any p docs ≡ true) → (p x || list_any p docs) ≡ true
 picked_one p docs Less x y d e t rest = or_right (p x) (list_any p docs) (rest e)
 picked_one p docs Equal x y d e t rest = or_right (p x) (list_any p docs) (rest e)
 picked_one p docs Greater x y d e t rest = or_left (p x) (list_any p docs) (ap p e ∙ t)
@@ -43,7 +44,8 @@ any_newest : (cmp : Doc → Doc → Ordering) (p : Doc → Bool) (d : Doc) (docs
 any_newest cmp p d [] e t = absurd (let z : ◌≡◌ {A = Option Doc} None (Some d) = e in cc)
 any_newest cmp p d (x ∷ docs) e t = by (λ y s is. any_newest cmp p d docs (s ∙ ap Some is) t) (newest cmp docs) refl e
   where
-    by : ((y : Doc) → newest cmp docs ≡ Some y → y ≡ d → list_any p docs ≡ true) → (o : Option Doc) → newest cmp docs ≡ o → of_both (newer cmp) (Some x) o ≡ Some d → (p x || list_any p docs) ≡ true
+    by : ((y : Doc) → newest cmp docs ≡ Some y → y ≡ d → list_any p docs ≡ true) → (o : Option Doc) → newest cmp docs ≡ o
+        → of_both (newer cmp) (Some x) o ≡ Some d → (p x || list_any p docs) ≡ true
     by rest None s f = or_left (p x) (list_any p docs) (ap p (same_Some x d f) ∙ t)
     by rest (Some y) s f = picked_one p docs (cmp x y) x y d (same_Some (newer cmp x y) d f) t (rest y s)
 
@@ -63,7 +65,8 @@ same_name index shard seq d i s q =
     (subst (λ x. is_named d.index d.shard x d ≡ true) q
     (λ j. eq-eqb d.index d.index refl j && (eq-eqb d.shard d.shard refl j && eq-eqb d.seq d.seq refl j))))
 
-named : (k j : Key) (index shard seq : ℕ) (o : Option Doc) → option_map (row_from k) (option_map name_of o) ≡ Some (row.Latest j index shard seq) → (d : Doc) × ((o ≡ Some d) × (is_named index shard seq d ≡ true))
+named : (k j : Key) (index shard seq : ℕ) (o : Option Doc) → option_map (row_from k) (option_map name_of o) ≡ Some (row.Latest j index shard seq)
+    → (d : Doc) × ((o ≡ Some d) × (is_named index shard seq d ≡ true))
 named k j index shard seq None e = absurd (let z : ◌≡◌ {A = Option Row} None (Some (row.Latest j index shard seq)) = e in cc)
 named k j index shard seq (Some d) e =
     let f : ◌≡◌ {A = Option Row} (Some (row.Latest k d.index d.shard d.seq)) (Some (row.Latest j index shard seq)) = e in

@@ -32,9 +32,11 @@ pub record Agrees (sources : List ℕ) (c : Config) : Type 0 where
   pub stays_is : (docs : List Doc) (cut : Option ℤ) (r : Row) → stays (meaning sources c) docs cut r ≡ model_retention.stays c docs cut r
   pub scratch_is : (bound cut : Option ℤ) (docs : List Doc) → scratch (meaning sources c) bound cut docs ≡ model_scratch.scratch sources c bound cut docs
   pub next_bound_is : (last : Option ℤ) (now : ℤ) → next_bound (meaning sources c) last now ≡ model_bounds.next_bound c last now
-  pub cutoff_is : (b : Checkpoint) (before : List Checkpoint) → cutoff (meaning sources c) (b ∷ before) ≡ model_bounds.cutoff c (cutoff (meaning sources c) before) b.moment
+  pub cutoff_is : (b : Checkpoint) (before : List Checkpoint)
+      → cutoff (meaning sources c) (b ∷ before) ≡ model_bounds.cutoff c (cutoff (meaning sources c) before) b.moment
   pub window_is : (b : Checkpoint) (before : List Checkpoint) → window (meaning sources c) (b ∷ before) ≡ model.window c (last_bound before) b.bound b.read
-  pub changed_is : (b : Checkpoint) (before : List Checkpoint) → changed (meaning sources c) (b ∷ before) ≡ model_changed.changed c (last_bound before) b.bound b.read
+  pub changed_is : (b : Checkpoint) (before : List Checkpoint)
+      → changed (meaning sources c) (b ∷ before) ≡ model_changed.changed c (last_bound before) b.bound b.read
   pub to_do_is : (l : Life) (b : Checkpoint) (before : List Checkpoint) → l.meaning ≡ meaning sources c → l.checkpoints ≡ b ∷ before
       → to_do l ≡ model_changed.changed_above c (last_bound before) b.bound l.position b.read
   pub due_is : (l : Life) (docs : List Doc) (moment : ℤ) → l.meaning ≡ meaning sources c

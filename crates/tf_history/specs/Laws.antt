@@ -1,14 +1,14 @@
 -- The laws, over the definitions alone. In each, past is a history with its newest entry first.
-use Rattle.std.specs.Prelude.{◌≡◌, ℕ, ℤ, suc, ◌+◌, ◌<◌, ◌-◌, ◌/◌, ◌≤ℤ◌, ⊤, Bool, true, false, cond, not, ◌&&◌, List, [], ◌∷◌, ◌++◌, length, ◌≤◌, Option, Some, None}
+use Rattle.std.specs.Prelude.{◌≡◌, ℕ, ℤ, suc, ◌+◌, ◌<◌, ◌-◌, ◌/◌, ◌≤ℤ◌, ⊤, Bool, true, false, cond, not, ◌&&◌, List, [], ◌∷◌, ◌++◌, length, map, ◌≤◌, Option, Some, None}
 use Rattle.std.specs.List.{list_any, list_all}
 use Rattle.tf_history.specs.Events.Deed.{Write}
 use Rattle.tf_history.specs.Grouping.{has_key, counted, row_of, row_at, keep, stays, row_if_any, scratch}
 use Rattle.tf_model.specs.Keys.{is_among}
 use Rattle.tf_history.specs.Lives.{Checkpoint, Life, life, written, read_last, last_bound, cutoff, changed, last_row, is_under}
 use Rattle.tf_model.specs.Changed.{is_after}
-use Rattle.tf_history.specs.Legality.{IsLegal, PagesRight, IsIdle}
+use Rattle.tf_history.specs.Legality.{IsLegal, PagesRight, IsIdle, IsAscending}
 use Rattle.tf_history.specs.Events.{Event}
-use Rattle.tf_history.specs.Meaning.{Meaning}
+use Rattle.tf_history.specs.Meaning.{Meaning, row_key}
 use Rattle.tf_model.specs.declared.doc.Doc.{Doc}
 use Rattle.tf_model.specs.declared.entry.Row.{Row}
 use Rattle.tf_model.specs.declared.value.Key.{Key}
@@ -26,27 +26,37 @@ pub record IsSound (past : List Event) (t : List ℕ) (l : Life) : Type 0 where
 
 -- with none running and no late document the rows are the grouping from scratch of all documents written so far
 abbrev pub FinishedIsScratch : Type 0
-FinishedIsScratch = (past : List Event) (t : List ℕ) (l : Life) → IsSound past t l → IsIdle l → 0 < l.finished → l.meaning.is_batch ≡ false → l.meaning.includes_late ≡ false → l.late ≡ 0 → l.rows ≡ scratch l.meaning (last_bound l.checkpoints) (cutoff l.meaning l.checkpoints) (written l.meaning past)
+FinishedIsScratch = (past : List Event) (t : List ℕ) (l : Life) → IsSound past t l → IsIdle l → 0 < l.finished → l.meaning.is_batch ≡ false
+    → l.meaning.includes_late ≡ false → l.late ≡ 0
+    → l.rows ≡ scratch l.meaning (last_bound l.checkpoints) (cutoff l.meaning l.checkpoints) (written l.meaning past)
 
 -- where late documents are included they are, whatever is late, that of the documents that the last checkpoint read
 abbrev pub IncludedIsScratch : Type 0
-IncludedIsScratch = (past : List Event) (t : List ℕ) (l : Life) → IsSound past t l → IsIdle l → 0 < l.finished → l.meaning.is_batch ≡ false → l.meaning.includes_late ≡ true → l.rows ≡ scratch l.meaning (last_bound l.checkpoints) (cutoff l.meaning l.checkpoints) (read_last l.checkpoints)
+IncludedIsScratch = (past : List Event) (t : List ℕ) (l : Life) → IsSound past t l → IsIdle l → 0 < l.finished → l.meaning.is_batch ≡ false
+    → l.meaning.includes_late ≡ true
+    → l.rows ≡ scratch l.meaning (last_bound l.checkpoints) (cutoff l.meaning l.checkpoints) (read_last l.checkpoints)
 
 -- where nothing was late when the running checkpoint began, a changed key above the position still has its row over the documents below the bound before
 abbrev pub KeptRowIsEarlier : Type 0
-KeptRowIsEarlier = (past : List Event) (t : List ℕ) (l : Life) (b a : Checkpoint) (before : List Checkpoint) → IsSound past t l → l.checkpoints ≡ b ∷ a ∷ before → suc l.finished ≡ length l.checkpoints → l.meaning.is_batch ≡ false → l.meaning.includes_late ≡ false → l.meaning.max_age ≡ None → b.late ≡ 0 → (k : Key) → is_after l.position k ≡ true → row_at k l.rows ≡ row_if_any l.meaning (counted l.meaning a.bound b.read) k
+KeptRowIsEarlier = (past : List Event) (t : List ℕ) (l : Life) (b a : Checkpoint) (before : List Checkpoint) → IsSound past t l
+    → l.checkpoints ≡ b ∷ a ∷ before → suc l.finished ≡ length l.checkpoints → l.meaning.is_batch ≡ false → l.meaning.includes_late ≡ false
+    → l.meaning.max_age ≡ None → b.late ≡ 0 → (k : Key) → is_after l.position k ≡ true
+    → row_at k l.rows ≡ row_if_any l.meaning (counted l.meaning a.bound b.read) k
 
 -- after checkpoint 1 they are that of the documents that it read, for a batch transform too
 abbrev pub FirstIsScratch : Type 0
-FirstIsScratch = (past : List Event) (t : List ℕ) (l : Life) (b : Checkpoint) → IsSound past t l → IsIdle l → l.checkpoints ≡ b ∷ [] → l.rows ≡ scratch l.meaning b.bound (cutoff l.meaning l.checkpoints) b.read
+FirstIsScratch = (past : List Event) (t : List ℕ) (l : Life) (b : Checkpoint) → IsSound past t l → IsIdle l → l.checkpoints ≡ b ∷ []
+    → l.rows ≡ scratch l.meaning b.bound (cutoff l.meaning l.checkpoints) b.read
 
 -- a batch transform's rows are the grouping of the documents that its one checkpoint read
 abbrev pub BatchIsScratch : Type 0
-BatchIsScratch = (past : List Event) (t : List ℕ) (l : Life) → IsSound past t l → IsIdle l → 0 < l.finished → l.meaning.is_batch ≡ true → l.rows ≡ scratch l.meaning None (cutoff l.meaning l.checkpoints) (read_last l.checkpoints)
+BatchIsScratch = (past : List Event) (t : List ℕ) (l : Life) → IsSound past t l → IsIdle l → 0 < l.finished → l.meaning.is_batch ≡ true
+    → l.rows ≡ scratch l.meaning None (cutoff l.meaning l.checkpoints) (read_last l.checkpoints)
 
 -- the newest checkpoint, when finished, has as many Pages as its changed keys fill
 abbrev pub PagesAreExact : Type 0
-PagesAreExact = (past : List Event) (t : List ℕ) (l : Life) → IsSound past t l → IsIdle l → 0 < l.finished → 0 < l.meaning.page_size → l.pages ≡ (length (changed l.meaning l.checkpoints) + (l.meaning.page_size - 1)) / l.meaning.page_size
+PagesAreExact = (past : List Event) (t : List ℕ) (l : Life) → IsSound past t l → IsIdle l → 0 < l.finished → 0 < l.meaning.page_size
+    → l.pages ≡ (length (changed l.meaning l.checkpoints) + (l.meaning.page_size - 1)) / l.meaning.page_size
 
 -- keys that show where the sync value stands: a fitting document that has the key lies in the key's interval, and no interval
 -- begins below an aligned moment and ends above it
@@ -77,15 +87,22 @@ IsStamped c (e ∷ past) = IsStamped c past × ((d : Doc) → e.deed ≡ Write d
 
 -- where every source is stamped nothing is late
 abbrev pub StampedIsNeverLate : Type 0
-StampedIsNeverLate = (past : List Event) (t : List ℕ) (l : Life) → IsLegal past → life t past ≡ Some l → IsStamped l.meaning past → ((x : ℤ) → l.meaning.aligned x ≤ℤ x) → l.late ≡ 0
+StampedIsNeverLate = (past : List Event) (t : List ℕ) (l : Life) → IsLegal past → life t past ≡ Some l → IsStamped l.meaning past
+    → ((x : ℤ) → l.meaning.aligned x ≤ℤ x) → l.late ≡ 0
+
+-- the rows ascend by key, each key once
+abbrev pub RowsAscend : Type 0
+RowsAscend = (past : List Event) (t : List ℕ) (l : Life) → IsSound past t l → IsAscending (map row_key l.rows)
 
 -- whatever is late: each key has the row of the last checkpoint in which it changed, unless the cutoff takes it out
 abbrev pub RowsWhenIdle : Type 0
-RowsWhenIdle = (past : List Event) (t : List ℕ) (l : Life) → IsSound past t l → IsIdle l → (k : Key) → row_at k l.rows ≡ keep (stays l.meaning (written l.meaning past) (cutoff l.meaning l.checkpoints)) (last_row l.meaning l.checkpoints k)
+RowsWhenIdle = (past : List Event) (t : List ℕ) (l : Life) → IsSound past t l → IsIdle l → (k : Key)
+    → row_at k l.rows ≡ keep (stays l.meaning (written l.meaning past) (cutoff l.meaning l.checkpoints)) (last_row l.meaning l.checkpoints k)
 
 -- in the middle of a checkpoint: a changed key at or below the position has its row, and every other key has what it had
 abbrev pub RowsWhenRunning : Type 0
-RowsWhenRunning = (past : List Event) (t : List ℕ) (l : Life) (b : Checkpoint) (before : List Checkpoint) → IsSound past t l → l.checkpoints ≡ b ∷ before → suc l.finished ≡ length l.checkpoints → (k : Key) →
+RowsWhenRunning = (past : List Event) (t : List ℕ) (l : Life) (b : Checkpoint) (before : List Checkpoint) → IsSound past t l
+    → l.checkpoints ≡ b ∷ before → suc l.finished ≡ length l.checkpoints → (k : Key) →
     row_at k l.rows ≡ cond (is_among (changed l.meaning l.checkpoints) k && not (is_after l.position k))
     (row_of l.meaning (counted l.meaning b.bound b.read) k)
     (keep (stays l.meaning (written l.meaning past) (cutoff l.meaning before)) (last_row l.meaning before k))

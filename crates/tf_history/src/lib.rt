@@ -6,13 +6,19 @@ ghost use Rattle.tf_history.specs.Agreement.{MeaningsAgree};
 ghost use Rattle.tf_history.specs.ConfiguredLaws.{AlignedKeysAppearOnce, StampedSourcesAreNeverLate};
 ghost use Rattle.tf_history.specs.Entries.{EntriesAreGrouped, LivesAreConfigured, LivesAreSteady};
 ghost use Rattle.tf_history.specs.LegalEntries.{LegalEntriesAreLegal};
-ghost use Rattle.tf_history.specs.Laws.{FinishedIsScratch, RowsWhenIdle, RowsWhenRunning, FirstIsScratch, BatchIsScratch, PagesAreExact, StampedIsNeverLate, KeptRowIsEarlier, IncludedIsScratch, AlignedIsApart, LastBoundDecides, LateAreFew};
+ghost use Rattle.tf_history.specs.Laws.{FinishedIsScratch, RowsAscend, RowsWhenIdle, RowsWhenRunning, FirstIsScratch, BatchIsScratch, PagesAreExact, StampedIsNeverLate, KeptRowIsEarlier, IncludedIsScratch, AlignedIsApart, LastBoundDecides, LateAreFew};
 
 /// With none running and no late document the destination is the grouping from scratch of all
 /// documents written so far below the bound, less what the cutoff takes out.
 #[tactic(auto, using(crate::proofs::CompleteLaw::finished_is_scratch))]
 pub fn finished_is_scratch()
     ensures { FinishedIsScratch }
+{}
+
+/// The rows of a destination ascend by key, each key once.
+#[tactic(auto, using(crate::proofs::CompleteLaw::rows_ascend))]
+pub fn rows_ascend()
+    ensures { RowsAscend }
 {}
 
 /// Whatever is late, a key has the row of the last checkpoint in which it changed.
