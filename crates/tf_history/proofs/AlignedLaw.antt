@@ -1,5 +1,5 @@
 -- Where bounds are aligned to a group of the sync field no key changes twice.
-use Rattle.std.proofs.Common.{◌≡◌, ℤ, Bool, true, false, cond, ◌&&◌, ◌||◌, List, [], ◌∷◌, ◌++◌, length, drop, Option, Some, None, arith, refl, sym, ap, ◌∙◌, subst}
+use Rattle.std.proofs.Common.{◌≡◌, ℤ, Bool, true, false, cond, ◌&&◌, ◌||◌, List, [], ◌∷◌, ◌++◌, Option, Some, None, arith, refl, sym, ap, ◌∙◌, subst}
 use Rattle.std.specs.Prelude.{⊤, IfSome, ◌≤ℤ◌, int_lt, int_le, pos}
 use Rattle.std.specs.List.{list_any, list_all, filter}
 use Rattle.std.specs.Int.{int_max}

@@ -335,64 +335,76 @@ unfolding key_cmp value_cmp value_of keys_of key_of floor_to aligned retained
 finish_allowed = record { running = (refl, refl); active = refl; nothing_left = refl }
 
 index_legal : IsLegalPast plainly (drop 6 entries)
-index_legal =
-    (tt, record {
-      moment = (omega (arith, ints), omega (arith, ints));
-      later = tt;
-      actor = omega arith;
-      fits = record { well_formed = refl; free = refl; few = omega arith; shards = (omega arith, omega arith); fields = omega arith; field_names = refl; stamp = tt; slow = refl };
-      allowed = tt;
-    })
+index_legal = (
+  tt,
+  record {
+    moment = (omega (arith, ints), omega (arith, ints));
+    later = tt;
+    actor = omega arith;
+    fits = record { well_formed = refl; free = refl; few = omega arith; shards = (omega arith, omega arith); fields = omega arith; field_names = refl; stamp = tt; slow = refl };
+    allowed = tt;
+  },
+)
 
 put_legal : IsLegalPast plainly (drop 5 entries)
-put_legal =
-    (index_legal, record {
-      moment = (omega (arith, ints), omega (arith, ints));
-      later = omega (arith, ints);
-      actor = omega arith;
-      fits = record { well_formed = refl; few = omega arith; checked = refl; dest_free = refl };
-      allowed = refl;
-    })
+put_legal = (
+  index_legal,
+  record {
+    moment = (omega (arith, ints), omega (arith, ints));
+    later = omega (arith, ints);
+    actor = omega arith;
+    fits = record { well_formed = refl; few = omega arith; checked = refl; dest_free = refl };
+    allowed = refl;
+  },
+)
 
 write_legal : IsLegalPast plainly (drop 4 entries)
-write_legal =
-    (put_legal, record {
-      moment = (omega (arith, ints), omega (arith, ints));
-      later = omega (arith, ints);
-      actor = omega arith;
-      fits = record { routed = refl; next = refl; room = omega arith; id_size = (omega arith, omega arith); id_new = refl; read = refl };
-      allowed = tt;
-    })
+write_legal = (
+  put_legal,
+  record {
+    moment = (omega (arith, ints), omega (arith, ints));
+    later = omega (arith, ints);
+    actor = omega arith;
+    fits = record { routed = refl; next = refl; room = omega arith; id_size = (omega arith, omega arith); id_new = refl; read = refl };
+    allowed = tt;
+  },
+)
 
 start_legal : IsLegalPast plainly (drop 3 entries)
 start_legal = (write_legal, record { moment = (omega (arith, ints), omega (arith, ints)); later = omega (arith, ints); actor = omega arith; fits = tt; allowed = refl })
 
 begin_legal : IsLegalPast plainly (drop 2 entries)
-begin_legal =
-    (start_legal, record {
-      moment = (omega (arith, ints), omega (arith, ints));
-      later = omega (arith, ints);
-      actor = omega arith;
-      fits = tt;
-      allowed = allowed_from_plain 3 3 (Begin t 1 (Some (pos 2))) begin_allowed;
-    })
+begin_legal = (
+  start_legal,
+  record {
+    moment = (omega (arith, ints), omega (arith, ints));
+    later = omega (arith, ints);
+    actor = omega arith;
+    fits = tt;
+    allowed = allowed_from_plain 3 3 (Begin t 1 (Some (pos 2))) begin_allowed;
+  },
+)
 
 page_legal : IsLegalPast plainly (drop 1 entries)
-page_legal =
-    (begin_legal, record {
-      moment = (omega (arith, ints), omega (arith, ints));
-      later = omega (arith, ints);
-      actor = omega arith;
-      fits = (record { parts = refl; part_dates = (tt, tt); values_are = refl; fits = ((omega (arith, ints), omega (arith, ints)), tt) }, tt);
-      allowed = allowed_from_plain 2 3 (Page t 1 (sum_row 1 10 ∷ [])) page_allowed;
-    })
+page_legal = (
+  begin_legal,
+  record {
+    moment = (omega (arith, ints), omega (arith, ints));
+    later = omega (arith, ints);
+    actor = omega arith;
+    fits = (record { parts = refl; part_dates = (tt, tt); values_are = refl; fits = ((omega (arith, ints), omega (arith, ints)), tt) }, tt);
+    allowed = allowed_from_plain 2 3 (Page t 1 (sum_row 1 10 ∷ [])) page_allowed;
+  },
+)
 
 entries_are_legal : IsLegalPast plainly entries
-entries_are_legal =
-    (page_legal, record {
-      moment = (omega (arith, ints), omega (arith, ints));
-      later = omega (arith, ints);
-      actor = omega arith;
-      fits = tt;
-      allowed = allowed_from_plain 1 3 (Finish t 1) finish_allowed;
-    })
+entries_are_legal = (
+  page_legal,
+  record {
+    moment = (omega (arith, ints), omega (arith, ints));
+    later = omega (arith, ints);
+    actor = omega arith;
+    fits = tt;
+    allowed = allowed_from_plain 1 3 (Finish t 1) finish_allowed;
+  },
+)

@@ -1,10 +1,10 @@
 -- Where late documents are included each row is over the documents that were read last.
-use Rattle.std.proofs.Common.{◌≡◌, ℤ, ◌<◌, Bool, true, false, cond, ◌&&◌, ◌||◌, List, [], ◌∷◌, ◌++◌, length, drop, Option, Some, None, arith, refl, sym, ap, ◌∙◌, subst}
+use Rattle.std.proofs.Common.{◌≡◌, ℤ, ◌<◌, Bool, true, false, cond, ◌||◌, List, [], ◌∷◌, ◌++◌, length, drop, Option, Some, None, arith, refl, sym, ap, ◌∙◌, subst}
 use Rattle.std.specs.Prelude.{⊤, IfSome}
 use Rattle.std.specs.List.{list_any, filter}
 use Rattle.std.proofs.lemmas.List.{append-nil, drop_at}
 use Rattle.std.proofs.lemmas.List.Elements.{filter-append}
-use Rattle.tf_history.specs.Grouping.{has_key, is_below, is_from, counts, counted, row_of, stays, row_if_any, keep}
+use Rattle.tf_history.specs.Grouping.{has_key, is_from, counts, counted, row_of, stays, row_if_any, keep}
 use Rattle.tf_model.specs.Keys.{is_among}
 use Rattle.tf_history.specs.Lives.{Checkpoint, Life, documents, written, writes, cutoff, changed, window, last_row, last_bound, read_last}
 use Rattle.tf_model.specs.Bounds.{risen}

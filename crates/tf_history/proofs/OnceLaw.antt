@@ -1,8 +1,8 @@
 -- A configured transform whose bounds are aligned to an interval of its keys.
-use Rattle.std.proofs.Common.{◌≡◌, ℕ, ℤ, pos, ◌-ℤ◌, ◌<ℤ◌, ◌≤ℤ◌, Bool, true, false, cond, ◌&&◌, ◌||◌, List, [], ◌∷◌, Option, Some, None, arith, refl, sym, ap, ◌∙◌, subst}
-use Rattle.std.specs.Prelude.{option_map, option_and_then, int_le, is_none, if◌then◌else◌}
+use Rattle.std.proofs.Common.{◌≡◌, ℕ, ℤ, pos, ◌-ℤ◌, ◌<ℤ◌, ◌≤ℤ◌, Bool, true, false, cond, List, [], ◌∷◌, Option, Some, None, arith, refl, sym, ap, ◌∙◌, subst}
+use Rattle.std.specs.Prelude.{option_map, option_and_then, is_none, if◌then◌else◌}
 use Rattle.std.specs.Int.{int_max}
-use Rattle.std.specs.Ordering.{is_eq, eq_by_cmp}
+use Rattle.std.specs.Ordering.{eq_by_cmp}
 use Rattle.std.specs.Str.{bytes_eq}
 use Rattle.std.proofs.lemmas.Int.{ints}
 use Rattle.std.proofs.lemmas.Option.{same_Some}
@@ -18,7 +18,6 @@ use Rattle.tf_model.specs.declared.config.Shape.TheVariants as shape
 use Rattle.tf_model.specs.declared.config.Group.{Group}
 use Rattle.tf_model.specs.declared.config.GroupKind.{GroupKind}
 use Rattle.tf_model.specs.declared.config.GroupKind.TheVariants as group_kind
-use Rattle.tf_model.specs.declared.entry.Entry.{Entry}
 use Rattle.tf_model.specs.Values.{value_of}
 use Rattle.tf_model.specs.Keys.{floor_to, least_date, grouped, part_from, part_of, parts_of, key_from, key_by, key_of, keys_of, listed, is_among, groups_of}
 use Rattle.tf_model.specs.Bounds.{step_of, step_or, step_for, first_step, align_step, floored, aligned}
@@ -27,10 +26,9 @@ use Rattle.tf_model.specs.Order.{key_cmp}
 use Rattle.tf_model.proofs.OrderLaws.{key_ties}
 use Rattle.tf_history.specs.Meaning.{Meaning}
 use Rattle.tf_history.specs.Configured.{meaning, aligned_by}
-use Rattle.tf_history.specs.Transforms.{PutTransform, meaning_of}
-use Rattle.tf_history.specs.Laws.{IsAligned, AreApart}
+use Rattle.tf_history.specs.Transforms.{meaning_of}
+use Rattle.tf_history.specs.Laws.{IsAligned}
 use Rattle.tf_history.specs.ConfiguredLaws.{is_not_early, AlignedKeysAppearOnce}
-use Rattle.tf_history.specs.Lives.{Life}
 use Rattle.tf_history.proofs.Lists.{or_false}
 use Rattle.tf_history.proofs.Numbers.{max_at_most, at_most_from, floor_below, floor_least}
 use Rattle.tf_history.proofs.AlignedLaw.{aligned_is_apart}

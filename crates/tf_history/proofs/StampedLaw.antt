@@ -1,5 +1,5 @@
 -- A configured transform whose sources are stamped.
-use Rattle.std.proofs.Common.{◌≡◌, ℕ, zero, suc, ℤ, pos, ◌-ℤ◌, ◌≤ℤ◌, Bool, true, false, ◌&&◌, ◌||◌, List, [], ◌∷◌, ◌++◌, Option, Some, None, arith, refl, sym, ap, ◌∙◌, subst, append_assoc}
+use Rattle.std.proofs.Common.{◌≡◌, ℕ, zero, suc, ℤ, pos, ◌-ℤ◌, ◌≤ℤ◌, Bool, true, false, ◌||◌, List, [], ◌∷◌, ◌++◌, Option, Some, None, arith, refl, sym, ap, ◌∙◌, subst, append_assoc}
 use Rattle.std.specs.Prelude.{IsSomeAnd, option_and_then, nat_eq, slice_get}
 use Rattle.std.specs.List.{list_any, list_all}
 use Rattle.std.proofs.lemmas.Int.{ints}
@@ -7,7 +7,6 @@ use Rattle.std.proofs.lemmas.List.{append-nil}
 use Rattle.std.proofs.lemmas.Slice.Eq.{bytes_eq-Decides}
 use Rattle.tf_model.specs.declared.doc.Doc.{Doc}
 use Rattle.tf_model.specs.declared.tree.Tree.{Tree}
-use Rattle.tf_model.specs.declared.value.Value.{Value}
 use Rattle.tf_model.specs.declared.value.Value.TheVariants as value
 use Rattle.tf_model.specs.declared.config.Config.{Config}
 use Rattle.tf_model.specs.declared.config.SyncTime.{SyncTime}
@@ -19,10 +18,10 @@ use Rattle.tf_model.specs.Retention.{date_of}
 use Rattle.tf_model.specs.Bounds.{align_step, floored, aligned}
 use Rattle.tf_history.specs.Meaning.{Meaning}
 use Rattle.tf_history.specs.Events.{Deed}
-use Rattle.tf_history.specs.Events.Deed.{Index, Write, Put, Delete, Reset, Start, StopAsked, Stopped, Schedule, Fail, Begin, Page, Finish}
+use Rattle.tf_history.specs.Events.Deed.{Index, Write, Delete, Reset, Start, StopAsked, Stopped, Schedule, Fail, Begin, Page, Finish}
 use Rattle.tf_history.specs.Configured.{meaning, aligned_by}
-use Rattle.tf_history.specs.Catalogue.{SourceIndex, ValuesOf, catalogue, makes, values_in, written_doc}
-use Rattle.tf_history.specs.Transforms.{PutTransform, meaning_of}
+use Rattle.tf_history.specs.Catalogue.{SourceIndex, catalogue, makes, values_in, written_doc}
+use Rattle.tf_history.specs.Transforms.{meaning_of}
 use Rattle.tf_history.specs.Lives.{documents}
 use Rattle.tf_history.specs.Laws.{IsStamped}
 use Rattle.tf_history.specs.Reading.{deed_of, events}

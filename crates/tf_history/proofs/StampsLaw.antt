@@ -2,7 +2,6 @@
 use Rattle.std.proofs.Common.{◌≡◌, ℕ, ℤ, ◌+◌, Bool, true, false, cond, ◌&&◌, ◌||◌, List, [], ◌∷◌, Option, Some, None, arith, refl, sym, ap, ◌∙◌, subst}
 use Rattle.std.specs.Prelude.{⊤, IfSome, ◌≤ℤ◌, int_lt}
 use Rattle.std.specs.List.{list_any}
-use Rattle.std.specs.Int.{int_max}
 use Rattle.std.proofs.lemmas.Int.{ints}
 use Rattle.tf_history.specs.Lives.{Checkpoint, Life, last_bound, next_bound, is_under, is_late}
 use Rattle.tf_model.specs.Bounds.{risen}

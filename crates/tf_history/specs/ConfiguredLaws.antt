@@ -1,16 +1,14 @@
 -- Stamps and aligned bounds, in the words of configurations.
-use Rattle.std.specs.Prelude.{◌≡◌, ℕ, ℤ, pos, ◌<ℤ◌, ◌≤ℤ◌, Bool, true, false, List, Option, Some, None, slice_get, int_le, IfSome}
+use Rattle.std.specs.Prelude.{◌≡◌, ℕ, ℤ, pos, ◌<ℤ◌, ◌≤ℤ◌, Bool, true, false, List, Option, Some, None, slice_get, int_le}
 use Rattle.std.specs.List.{list_all}
 use Rattle.std.specs.Str.{bytes_eq}
 use Rattle.tf_model.specs.declared.tree.Tree.{Tree}
 use Rattle.tf_model.specs.declared.value.Value.TheVariants.{Date}
 use Rattle.tf_model.specs.declared.config.SyncTime.{SyncTime}
 use Rattle.tf_model.specs.declared.entry.Entry.{Entry}
-use Rattle.tf_model.specs.declared.doc.Doc.{Doc}
 use Rattle.tf_model.specs.Values.{value_at}
 use Rattle.tf_model.specs.Keys.{least_date}
 use Rattle.tf_model.specs.Bounds.{align_step}
-use Rattle.tf_history.specs.Meaning.{Meaning}
 use Rattle.tf_history.specs.Catalogue.{SourceIndex, ValuesOf, catalogue}
 use Rattle.tf_history.specs.Transforms.{PutTransform, transform_of}
 use Rattle.tf_history.specs.Lives.{Life, life, written}

@@ -1,5 +1,5 @@
 -- The laws, over the definitions alone. In each, past is a history with its newest entry first.
-use Rattle.std.specs.Prelude.{◌≡◌, ℕ, ℤ, suc, ◌+◌, ◌<◌, ◌-◌, ◌/◌, ◌≤ℤ◌, ⊤, Bool, true, false, cond, not, ◌&&◌, List, [], ◌∷◌, ◌++◌, length, map, ◌≤◌, Option, Some, None}
+use Rattle.std.specs.Prelude.{◌≡◌, ℕ, ℤ, suc, ◌+◌, ◌<◌, ◌-◌, ◌/◌, ◌≤ℤ◌, ⊤, Bool, true, false, if◌then◌else◌, not, ◌&&◌, List, [], ◌∷◌, ◌++◌, length, map, ◌≤◌, Option, Some, None}
 use Rattle.std.specs.List.{list_any, list_all}
 use Rattle.tf_history.specs.Events.Deed.{Write}
 use Rattle.tf_history.specs.Grouping.{has_key, counted, row_of, row_at, keep, stays, row_if_any, scratch}
@@ -13,7 +13,7 @@ use Rattle.tf_model.specs.declared.doc.Doc.{Doc}
 use Rattle.tf_model.specs.declared.entry.Row.{Row}
 use Rattle.tf_model.specs.declared.value.Key.{Key}
 
--- a row's retention value is the same among more documents
+-- a row that was grouped from documents has the same retention value among more documents
 abbrev pub IsSteady : Meaning → Type 0
 IsSteady c = (docs more : List Doc) (bound : Option ℤ) (k : Key) (r : Row) → row_of c (counted c bound docs) k ≡ Some r → c.retained (docs ++ more) r ≡ c.retained docs r
 
@@ -36,7 +36,8 @@ IncludedIsScratch = (past : List Event) (t : List ℕ) (l : Life) → IsSound pa
     → l.meaning.includes_late ≡ true
     → l.rows ≡ scratch l.meaning (last_bound l.checkpoints) (cutoff l.meaning l.checkpoints) (read_last l.checkpoints)
 
--- where nothing was late when the running checkpoint began, a changed key above the position still has its row over the documents below the bound before
+-- where nothing was late when the running checkpoint began and no row is too old, a key above the position still has its row
+-- over the documents below the bound before
 abbrev pub KeptRowIsEarlier : Type 0
 KeptRowIsEarlier = (past : List Event) (t : List ℕ) (l : Life) (b a : Checkpoint) (before : List Checkpoint) → IsSound past t l
     → l.checkpoints ≡ b ∷ a ∷ before → suc l.finished ≡ length l.checkpoints → l.meaning.is_batch ≡ false → l.meaning.includes_late ≡ false
@@ -65,7 +66,7 @@ pub record IsAligned (c : Meaning) (fits : Doc → Bool) (part : Key → ℤ) (f
   pub below : (d : Doc) → fits d ≡ true → (v : ℤ) → c.sync d ≡ Some v → floor v ≤ℤ v
   pub bounds : (moment v : ℤ) → c.aligned moment ≤ℤ v → c.aligned moment ≤ℤ floor v
 
--- a key is in no changed keys of the list's checkpoints
+-- a key is changed in none of these checkpoints
 abbrev pub IsNeverChanged : Meaning → List Checkpoint → Key → Type 0
 IsNeverChanged c [] k = ⊤
 IsNeverChanged c (b ∷ before) k = (is_among (changed c (b ∷ before)) k ≡ false) × IsNeverChanged c before k
@@ -78,14 +79,15 @@ AreApart c (b ∷ before) = ((k : Key) → is_among (changed c (b ∷ before)) k
 -- where bounds are aligned to the intervals of the keys, and all documents fit, no key is changed in two checkpoints
 abbrev pub AlignedIsApart : Type 0
 AlignedIsApart = (past : List Event) (t : List ℕ) (l : Life) (fits : Doc → Bool) (part : Key → ℤ) (floor : ℤ → ℤ) → IsLegal past → life t past ≡ Some l
-    → l.meaning.is_batch ≡ false → l.meaning.includes_late ≡ false → list_all fits (written l.meaning past) ≡ true → IsAligned l.meaning fits part floor → AreApart l.meaning l.checkpoints
+    → l.meaning.is_batch ≡ false → l.meaning.includes_late ≡ false → list_all fits (written l.meaning past) ≡ true → IsAligned l.meaning fits part floor
+    → AreApart l.meaning l.checkpoints
 
 -- every document written into the sources has the moment of its entry as sync value
 abbrev pub IsStamped : Meaning → List Event → Type 0
 IsStamped c [] = ⊤
 IsStamped c (e ∷ past) = IsStamped c past × ((d : Doc) → e.deed ≡ Write d → c.is_source d.index ≡ true → c.sync d ≡ Some e.moment)
 
--- where every source is stamped nothing is late
+-- where every document has its entry's moment as sync value, and bounds are not above their moment, nothing is late
 abbrev pub StampedIsNeverLate : Type 0
 StampedIsNeverLate = (past : List Event) (t : List ℕ) (l : Life) → IsLegal past → life t past ≡ Some l → IsStamped l.meaning past
     → ((x : ℤ) → l.meaning.aligned x ≤ℤ x) → l.late ≡ 0
@@ -99,13 +101,15 @@ abbrev pub RowsWhenIdle : Type 0
 RowsWhenIdle = (past : List Event) (t : List ℕ) (l : Life) → IsSound past t l → IsIdle l → (k : Key)
     → row_at k l.rows ≡ keep (stays l.meaning (written l.meaning past) (cutoff l.meaning l.checkpoints)) (last_row l.meaning l.checkpoints k)
 
--- in the middle of a checkpoint: a changed key at or below the position has its row, and every other key has what it had
+-- whatever is late, in the middle of a checkpoint: a changed key at or below the position has its row, and every other key has what it
+-- had just after the Finish before
 abbrev pub RowsWhenRunning : Type 0
 RowsWhenRunning = (past : List Event) (t : List ℕ) (l : Life) (b : Checkpoint) (before : List Checkpoint) → IsSound past t l
-    → l.checkpoints ≡ b ∷ before → suc l.finished ≡ length l.checkpoints → (k : Key) →
-    row_at k l.rows ≡ cond (is_among (changed l.meaning l.checkpoints) k && not (is_after l.position k))
-    (row_of l.meaning (counted l.meaning b.bound b.read) k)
-    (keep (stays l.meaning (written l.meaning past) (cutoff l.meaning before)) (last_row l.meaning before k))
+    → l.checkpoints ≡ b ∷ before → suc l.finished ≡ length l.checkpoints → (k : Key)
+    → row_at k l.rows
+    ≡ (if is_among (changed l.meaning l.checkpoints) k && not (is_after l.position k)
+    then row_of l.meaning (counted l.meaning b.bound b.read) k
+    else keep (stays l.meaning (written l.meaning past) (cutoff l.meaning before)) (last_row l.meaning before k))
 
 -- bounds never fall, so a sync value below the bound of some checkpoint of a life is below the last one
 abbrev pub LastBoundDecides : Type 0

@@ -17,6 +17,7 @@ use Rattle.tf_history.specs.Grouping.{row_of, sum_range}
 use Rattle.tf_history.specs.Lives.{Life, Act, act, life, counted_last, changed, last_bound, next_bound, Checkpoint, is_running, window, from_sources, documents, is_same}
 use Rattle.tf_history.specs.Lives.Act.{Opens, Reopens, Pages}
 
+-- whether a list has nothing
 abbrev pub is_empty : {X : Type 0} → List X → Bool
 is_empty [] = true
 is_empty (x ∷ xs) = false
@@ -130,7 +131,7 @@ is_due l docs moment =
     is_empty l.checkpoints || (not l.meaning.is_batch && (has_window l docs moment && is_time l.meaning l.checkpoints l.prompted moment))
 
 -- ---- legal entries
--- docs are all documents written
+-- a Begin of the next checkpoint while it is due, with the bound of its moment; docs are all documents written
 pub record MayBegin (l : Life) (docs : List Doc) (n : ℕ) (bound : Option ℤ) (moment : ℤ) : Type 0 where
   pub started : l.state ≡ Started
   pub idle : IsIdle l
@@ -138,7 +139,7 @@ pub record MayBegin (l : Life) (docs : List Doc) (n : ℕ) (bound : Option ℤ) 
   pub number : n ≡ l.finished + 1
   pub bound_is : bound ≡ next_bound l.meaning (last_bound l.checkpoints) moment
 
--- the rows of a legal Page: at least one, at most the page size, ascending by key and above the position
+-- a Page of the running checkpoint. Its rows are at least one, at most the page size, ascending by key and above the position
 pub record MayPage (l : Life) (n : ℕ) (rows : List Row) : Type 0 where
   pub running : IsRunning l n
   pub active : is_active l.state ≡ true
@@ -151,12 +152,14 @@ pub record MayPage (l : Life) (n : ℕ) (rows : List Row) : Type 0 where
 abbrev pub told : SumRange → List ℕ × ℤ
 told range = (range.name, range.value)
 
+-- a Fail in the place of the next Page, with its least key that has no row and the sum in the place of that row
 pub record MayFail (l : Life) (n : ℕ) (k : Key) (name : List ℕ) (value : ℤ) : Type 0 where
   pub running : IsRunning l n
   pub active : is_active l.state ≡ true
   pub first : failing l ≡ Some k
   pub tells : option_map told (sum_now l k) ≡ Some (name, value)
 
+-- a Finish where no changed key is above the position
 pub record MayFinish (l : Life) (n : ℕ) : Type 0 where
   pub running : IsRunning l n
   pub active : is_active l.state ≡ true

@@ -42,7 +42,7 @@ pub record Checkpoint : Type 0 where
   pub read : List Doc  -- the documents written into the sources before it
   pub late : ℕ  -- how many documents were late before it
 
--- Checkpoints stand newest first. The bound of the newest, none where there is none
+-- checkpoints stand newest first: the bound of the newest, none where there is none
 abbrev pub last_bound : List Checkpoint → Option ℤ
 last_bound [] = None
 last_bound (b ∷ before) = b.bound
@@ -129,7 +129,22 @@ pub record Life : Type 0 where
 
 -- a life that begins
 abbrev pub fresh : Meaning → Life
-fresh c = record { meaning = c; checkpoints = []; finished = 0; position = None; pages = 0; rows = []; late = 0; state = Stopped; waits = false; prompted = false; reason = None; processed = 0; indexed = 0; deleted = 0 }
+fresh c = record {
+  meaning = c;
+  checkpoints = [];
+  finished = 0;
+  position = None;
+  pages = 0;
+  rows = [];
+  late = 0;
+  state = Stopped;
+  waits = false;
+  prompted = false;
+  reason = None;
+  processed = 0;
+  indexed = 0;
+  deleted = 0;
+}
 
 -- what changes the state alone
 pub data Turn : Type 0 where
@@ -192,17 +207,17 @@ is_same = bytes_eq
 abbrev pub act : List ℕ → Event → Act
 act t e = elim e.deed as (λ _. Act) [
   | Write d ↦ Writes d
-  | Put id c ↦ if is_same t id then (Opens c) else Aside
+  | Put id c ↦ if is_same t id then Opens c else Aside
   | Delete id ↦ if is_same t id then Closes else Aside
   | Reset id ↦ if is_same t id then Reopens else Aside
-  | Begin id n bound ↦ if is_same t id then (Begins n bound e.moment) else Aside
-  | Page id n rows ↦ if is_same t id then (Pages n rows) else Aside
-  | Finish id n ↦ if is_same t id then (Finishes n) else Aside
-  | Start id ↦ if is_same t id then (Turns Starts) else Aside
-  | StopAsked id wait ↦ if is_same t id then (Turns (Asks wait)) else Aside
-  | StoppedDeed id ↦ if is_same t id then (Turns Stops) else Aside
-  | Schedule id ↦ if is_same t id then (Turns Prompts) else Aside
-  | Fail id n k name value ↦ if is_same t id then (Turns (Fails k name value)) else Aside
+  | Begin id n bound ↦ if is_same t id then Begins n bound e.moment else Aside
+  | Page id n rows ↦ if is_same t id then Pages n rows else Aside
+  | Finish id n ↦ if is_same t id then Finishes n else Aside
+  | Start id ↦ if is_same t id then Turns Starts else Aside
+  | StopAsked id wait ↦ if is_same t id then Turns (Asks wait) else Aside
+  | StoppedDeed id ↦ if is_same t id then Turns Stops else Aside
+  | Schedule id ↦ if is_same t id then Turns Prompts else Aside
+  | Fail id n k name value ↦ if is_same t id then Turns (Fails k name value) else Aside
   | Index ↦ Aside
 ]
 
@@ -221,10 +236,28 @@ lived docs (Begins n bound moment) l =
       state = Indexing;
       prompted = false;
     }
-lived docs (Pages n rows) l = record l { position = last_key rows; pages = l.pages + 1; rows = put_rows rows l.rows; processed = l.processed + 1; indexed = l.indexed + length rows }
-lived docs (Finishes n) l = record l { finished = n; state = after_finish l.state; rows = filter (row_stays docs l) l.rows; deleted = l.deleted + count_by (λ r. not (row_stays docs l r)) l.rows }
+lived docs (Pages n rows) l =
+    record l {
+      position = last_key rows;
+      pages = l.pages + 1;
+      rows = put_rows rows l.rows;
+      processed = l.processed + 1;
+      indexed = l.indexed + length rows;
+    }
+lived docs (Finishes n) l =
+    record l {
+      finished = n;
+      state = after_finish l.state;
+      rows = filter (row_stays docs l) l.rows;
+      deleted = l.deleted + count_by (λ r. not (row_stays docs l r)) l.rows;
+    }
 lived docs (Turns turn) l =
-    record l { state = state_turned turn (is_running l) l.state; waits = waits_turned turn l.waits; prompted = prompted_turned turn l.prompted; reason = reason_turned turn l.reason }
+    record l {
+      state = state_turned turn (is_running l) l.state;
+      waits = waits_turned turn l.waits;
+      prompted = prompted_turned turn l.prompted;
+      reason = reason_turned turn l.reason;
+    }
 lived docs _ l = l
 
 -- a life after an act, where there is one
@@ -234,7 +267,7 @@ life_after docs Reopens l = option_map (λ (o : Life). fresh o.meaning) l
 life_after docs Closes l = None
 life_after docs a l = option_map (lived docs a) l
 
--- the life of t after a history, none where t does not exist
+-- the life of t after a past: that since its last Put or Reset, none where t was not put or a Delete follows
 abbrev pub life : List ℕ → List Event → Option Life
 life t [] = None
 life t (e ∷ past) = life_after (documents past) (act t e) (life t past)
