@@ -1,5 +1,5 @@
-use Rattle.tf_history.specs.Legality.{IsBelowAll, IsAscending}
 -- Facts on ascending keys.
+use Rattle.tf_history.specs.Legality.{IsBelowAll, IsAscending}
 use Rattle.std.proofs.Common.{◌≡◌, ℕ, Bool, true, false, cond, ◌&&◌, ◌||◌, List, [], ◌∷◌, ◌++◌, Option, Some, None, take, drop, suc, zero, refl, sym, ap, ◌∙◌, subst}
 use Rattle.std.specs.List.{list_any, filter, flat_map, fold}
 use Rattle.std.specs.Ordering.{is_lt, is_eq, ordering_reverse}

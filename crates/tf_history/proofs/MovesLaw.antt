@@ -1,6 +1,6 @@
+-- What the indexer would make next is legal and right.
 use Rattle.tf_history.specs.Lives.Turn.{Starts, Asks, Stops, Prompts, Fails}
 use Rattle.std.proofs.lemmas.List.{length-map}
--- What the indexer would make next is legal and right.
 use Rattle.std.proofs.Common.{◌≡◌, ℕ, ℤ, ◌+◌, ◌<◌, ◌≤◌, zero, suc, Bool, true, false, cond, ◌&&◌, List, [], ◌∷◌, length, map, take, Option, Some, None, arith, refl, sym, ap, ◌∙◌, subst, inl, inr, ◌⊎◌, ltb-true, length-take, ltb-false}
 use Rattle.std.specs.Prelude.{⊤, IfSome, IsSomeAnd, is_none, option_map, option_and_then, filter_map, nat_lt}
 use Rattle.std.specs.List.{filter, find, list_all, cons_option}

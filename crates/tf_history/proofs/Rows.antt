@@ -1,5 +1,5 @@
-use Rattle.tf_history.specs.Legality.{IsBelowAll, IsAscending}
 -- Facts on rows in the order of their keys.
+use Rattle.tf_history.specs.Legality.{IsBelowAll, IsAscending}
 use Rattle.std.proofs.Common.{◌≡◌, Bool, true, false, cond, ◌||◌, List, [], ◌∷◌, map, Option, Some, None, refl, sym, ap, ◌∙◌, subst}
 use Rattle.std.specs.Prelude.{filter_map}
 use Rattle.std.specs.List.{filter, cons_option}
