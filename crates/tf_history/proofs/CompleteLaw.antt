@@ -11,9 +11,9 @@ use Rattle.tf_model.specs.Changed.{is_after}
 use Rattle.tf_model.specs.Bounds.{risen}
 use Rattle.tf_history.specs.Grouping.{from_bound}
 use Rattle.tf_history.specs.Lives.Act.{Aside, Opens, Reopens, Closes, Writes, Begins, Pages, Finishes, Turns}
-use Rattle.tf_history.specs.Legality.{IsLegal, IsAscending}
+use Rattle.tf_history.specs.Legality.{IsLegal}
 use Rattle.tf_history.proofs.Lists.{any_filter}
-use Rattle.tf_history.proofs.Keys.{ascending-all_keys, is_among-all_keys}
+use Rattle.tf_history.proofs.Keys.{sorted, IsAscending, ascending-all_keys, is_among-all_keys}
 use Rattle.tf_history.proofs.Rows.{keys_in, row_at_keep, ascending_keep, ascending_made, row_at_made, same_rows}
 use Rattle.tf_history.proofs.Counting.{keyed, row_if_any-same, same_counted}
 use Rattle.tf_history.specs.Laws.{IsSound, FinishedIsScratch, RowsAscend, RowsWhenIdle, RowsWhenRunning}
@@ -154,7 +154,7 @@ idle_each c docs [] finished position rows idle h k = elim h.phase [ inl i ↦ i
 idle_each c docs (b ∷ before) finished position rows idle h k = elim h.phase [ inl i ↦ i.each k | inr r ↦ absurd (let z = r.count in omega arith) ]
 
 pub rows_ascend : RowsAscend
-rows_ascend past t l sound = (held past t l sound).ascending
+rows_ascend past t l sound = sorted (keys_in l.rows) (held past t l sound).ascending
 
 pub rows_when_idle : RowsWhenIdle
 rows_when_idle past t l sound idle k = idle_each l.meaning (written l.meaning past) l.checkpoints l.finished l.position l.rows idle (held past t l sound) k

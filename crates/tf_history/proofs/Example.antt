@@ -2,6 +2,7 @@
 -- document at the bound that waits, and a second checkpoint.
 use Rattle.std.proofs.Common.{◌≡◌, ℕ, true, false, List, [], ◌∷◌, ◌++◌, Option, Some, None, arith, refl, sym, ap, ◌∙◌, subst, take, drop}
 use Rattle.std.specs.Prelude.{pos, codes, option_map}
+use Rattle.std.specs.List.Sorted.{IsStrictlySortedBy}
 use Rattle.std.proofs.lemmas.Int.{ints}
 use Rattle.tf_model.specs.declared.doc.Doc.{Doc}
 use Rattle.tf_model.specs.declared.tree.Tree.TheVariants as tree
@@ -150,7 +151,7 @@ abbrev plain_sums : Meaning
 plain_sums = plain total None
 
 legal_plain : IsLegal (past_of (history plain_sums))
-unfolding key_cmp value_cmp value_of keys_of key_of floor_to aligned retained
+unfolding key_cmp value_cmp value_of keys_of key_of floor_to aligned retained IsStrictlySortedBy
 legal_plain = (
   (
     (
@@ -327,7 +328,7 @@ unfolding key_cmp value_cmp value_of keys_of key_of floor_to aligned retained
 begin_allowed = record { started = refl; idle = refl; due = refl; number = refl; bound_is = refl }
 
 page_allowed : IsAllowed (pos 3) (Page t 1 (sum_row 1 10 ∷ [])) (drop 2 (told plain_sums))
-unfolding key_cmp value_cmp value_of keys_of key_of floor_to aligned retained
+unfolding key_cmp value_cmp value_of keys_of key_of floor_to aligned retained IsStrictlySortedBy
 page_allowed = record { running = (refl, refl); active = refl; some = omega arith; fits = omega arith; ascending = (tt, tt); above = refl }
 
 finish_allowed : IsAllowed (pos 3) (Finish t 1) (drop 1 (told plain_sums))

@@ -1,7 +1,8 @@
 -- Facts on ascending keys.
-use Rattle.tf_history.specs.Legality.{IsBelowAll, IsAscending}
 use Rattle.std.proofs.Common.{◌≡◌, ℕ, Bool, true, false, cond, ◌&&◌, ◌||◌, List, [], ◌∷◌, ◌++◌, Option, Some, None, take, drop, suc, zero, refl, sym, ap, ◌∙◌, subst}
-use Rattle.std.specs.List.{list_any, filter, flat_map, fold}
+use Rattle.std.specs.Prelude.{⊤}
+use Rattle.std.specs.List.Sorted.{IsStrictlySortedBy}
+use Rattle.std.specs.List.{AllByRecursion, list_any, filter, flat_map, fold}
 use Rattle.std.specs.Ordering.{is_lt, is_eq, ordering_reverse}
 use Rattle.std.specs.Cmp.{IsTotalOrder, tied_itself}
 use Rattle.tf_model.specs.Order.{key_cmp_total, key_cmp}
@@ -18,6 +19,20 @@ use Rattle.tf_model.specs.declared.doc.Doc.{Doc}
 use Rattle.tf_model.specs.declared.value.Key.{Key}
 use Rattle.std.specs.Ordering.{match_ordering}
 use Rattle.std.specs.BTreeSet.{insert_key}
+
+-- a key that is below each of these
+abbrev pub IsBelowAll : Key → List Key → Type 0
+IsBelowAll k keys = AllByRecursion (λ j. key_cmp k j ≡ Less) keys
+
+-- keys that ascend, each once, in a form that computes
+abbrev pub IsAscending : List Key → Type 0
+IsAscending [] = ⊤
+IsAscending (k ∷ keys) = IsBelowAll k keys × IsAscending keys
+
+pub sorted : (keys : List Key) → IsAscending keys → IsStrictlySortedBy key_cmp keys
+unfolding IsStrictlySortedBy
+sorted [] h = tt
+sorted (k ∷ keys) h = (h.0, sorted keys h.1)
 
 -- all that is used of the order
 pub keys_total : IsTotalOrder key_cmp

@@ -10,10 +10,10 @@ use Rattle.tf_model.specs.declared.task.State.{State}
 use Rattle.tf_history.specs.Lives.{Life, life, documents, counted_last, changed, window, last_bound, next_bound, is_running, Turn, state_turned, after_finish}
 use Rattle.tf_model.specs.Changed.{is_after}
 use Rattle.tf_model.specs.declared.task.State.TheVariants.{Stopped, Started, Indexing, Stopping, Failed}
-use Rattle.tf_history.specs.Legality.{IsBelowAll, IsAscending, IsRunning, MayBegin, MayPage, MayFail, MayFinish, IsRight, IsAllowed, is_active, is_started, is_due, may_stop, to_do, next_page, row_now, sum_now, told, failing, move_of, page_move, fail_move, begin_move}
+use Rattle.tf_history.specs.Legality.{IsRunning, MayBegin, MayPage, MayFail, MayFinish, IsRight, IsAllowed, is_active, is_started, is_due, may_stop, to_do, next_page, row_now, sum_now, told, failing, move_of, page_move, fail_move, begin_move}
 use Rattle.tf_history.specs.Histories.{IsRightEvent, MovesAreLegal}
 use Rattle.tf_history.proofs.Lists.{and_first, and_second}
-use Rattle.tf_history.proofs.Keys.{ascending-all_keys, ascending_filter}
+use Rattle.tf_history.proofs.Keys.{sorted, IsBelowAll, IsAscending, ascending-all_keys, ascending_filter}
 use Rattle.tf_history.proofs.Rows.{keys_in, keys_from}
 use Rattle.tf_history.proofs.Counting.{keyed}
 use Rattle.tf_history.proofs.Induction.{IsKept, holds, legal_known}
@@ -148,8 +148,8 @@ rows_fine past t moment l is running active k keys e f = (
     active = active;
     some = some;
     fits = omega (arith, made_length (row_now l) rows (k ∷ keys) made, ap length f, length-take l.meaning.page_size (to_do l));
-    ascending = subst IsAscending (sym page_keys) (subst IsAscending f
-        (ascending_take l.meaning.page_size (to_do l) (ascending_filter (is_after l.position) (changed l.meaning l.checkpoints) (ascending-all_keys l.meaning (window l.meaning l.checkpoints)))));
+    ascending = sorted (keys_in rows) (subst IsAscending (sym page_keys) (subst IsAscending f
+        (ascending_take l.meaning.page_size (to_do l) (ascending_filter (is_after l.position) (changed l.meaning l.checkpoints) (ascending-all_keys l.meaning (window l.meaning l.checkpoints))))));
     above = rows_above (is_after l.position) rows
         ∙ (ap (list_all (is_after l.position)) page_keys
         ∙ (ap (list_all (is_after l.position)) (sym f) ∙ all_filter (is_after l.position) l.meaning.page_size (changed l.meaning l.checkpoints)));

@@ -1,5 +1,4 @@
 -- Facts on rows in the order of their keys.
-use Rattle.tf_history.specs.Legality.{IsBelowAll, IsAscending}
 use Rattle.std.proofs.Common.{◌≡◌, Bool, true, false, cond, ◌||◌, List, [], ◌∷◌, map, Option, Some, None, refl, sym, ap, ◌∙◌, subst}
 use Rattle.std.specs.Prelude.{filter_map}
 use Rattle.std.specs.List.{filter, cons_option}
@@ -9,7 +8,7 @@ use Rattle.std.specs.declared.cmp.Ordering.TheVariants.{Less, Equal, Greater}
 use Rattle.tf_history.specs.Grouping.{row_at, keep}
 use Rattle.tf_model.specs.Keys.{is_among}
 use Rattle.tf_history.specs.Lives.{put_row, put_rows, last_key}
-use Rattle.tf_history.proofs.Keys.{keys_exact, cmp_itself, cmp_back, ascending_add, below_trans, last_of, equal_from}
+use Rattle.tf_history.proofs.Keys.{IsBelowAll, IsAscending, keys_exact, cmp_itself, cmp_back, ascending_add, below_trans, last_of, equal_from}
 use Rattle.tf_history.specs.Meaning.{row_key}
 use Rattle.tf_model.specs.Order.{key_cmp}
 use Rattle.tf_model.specs.declared.entry.Row.{Row}

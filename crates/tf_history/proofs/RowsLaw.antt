@@ -9,8 +9,8 @@ use Rattle.tf_model.specs.Keys.{is_among}
 use Rattle.tf_history.specs.Lives.{Checkpoint, Life, Act, act, life, life_after, lived, fresh, documents, from_sources, cutoff, changed, window, counted_last, last_row, put_rows, last_key}
 use Rattle.tf_model.specs.Changed.{is_after}
 use Rattle.tf_history.specs.Lives.Act.{Aside, Opens, Reopens, Closes, Writes, Begins, Pages, Finishes, Turns}
-use Rattle.tf_history.specs.Legality.{IsLegal, PagesRight, RightAct, IsAscending}
-use Rattle.tf_history.proofs.Keys.{ascending-all_keys, ascending_filter, above_page, is_among-filter, among_split, front_apart, last_of}
+use Rattle.tf_history.specs.Legality.{IsLegal, PagesRight, RightAct}
+use Rattle.tf_history.proofs.Keys.{IsAscending, ascending-all_keys, ascending_filter, above_page, is_among-filter, among_split, front_apart, last_of}
 use Rattle.tf_history.proofs.Rows.{keys_in, row_at-put_rows, ascending-put_rows, row_at_keep, ascending_keep, keys_from, last_key-keys}
 use Rattle.tf_history.proofs.Counting.{keyed, keep_later, keep_same}
 use Rattle.tf_history.specs.Laws.{IsSteady}

@@ -1,12 +1,14 @@
 -- The laws, over the definitions alone. In each, past is a history with its newest entry first.
 use Rattle.std.specs.Prelude.{◌≡◌, ℕ, ℤ, suc, ◌+◌, ◌<◌, ◌-◌, ◌/◌, ◌≤ℤ◌, ⊤, Bool, true, false, if◌then◌else◌, not, ◌&&◌, List, [], ◌∷◌, ◌++◌, length, map, ◌≤◌, Option, Some, None}
 use Rattle.std.specs.List.{list_any, list_all}
+use Rattle.std.specs.List.Sorted.{IsStrictlySortedBy}
+use Rattle.tf_model.specs.Order.{key_cmp}
 use Rattle.tf_history.specs.Events.Deed.{Write}
 use Rattle.tf_history.specs.Grouping.{has_key, counted, row_of, row_at, keep, stays, row_if_any, scratch}
 use Rattle.tf_model.specs.Keys.{is_among}
 use Rattle.tf_history.specs.Lives.{Checkpoint, Life, life, written, read_last, last_bound, cutoff, changed, last_row, is_under}
 use Rattle.tf_model.specs.Changed.{is_after}
-use Rattle.tf_history.specs.Legality.{IsLegal, PagesRight, IsIdle, IsAscending}
+use Rattle.tf_history.specs.Legality.{IsLegal, PagesRight, IsIdle}
 use Rattle.tf_history.specs.Events.{Event}
 use Rattle.tf_history.specs.Meaning.{Meaning, row_key}
 use Rattle.tf_model.specs.declared.doc.Doc.{Doc}
@@ -94,7 +96,7 @@ StampedIsNeverLate = (past : List Event) (t : List ℕ) (l : Life) → IsLegal p
 
 -- the rows ascend by key, each key once
 abbrev pub RowsAscend : Type 0
-RowsAscend = (past : List Event) (t : List ℕ) (l : Life) → IsSound past t l → IsAscending (map row_key l.rows)
+RowsAscend = (past : List Event) (t : List ℕ) (l : Life) → IsSound past t l → IsStrictlySortedBy key_cmp (map row_key l.rows)
 
 -- whatever is late: each key has the row of the last checkpoint in which it changed, unless the cutoff takes it out
 abbrev pub RowsWhenIdle : Type 0

@@ -1,7 +1,7 @@
 -- Which entries are legal after a past, which Pages are right, and what the indexer would make next.
 use Rattle.std.specs.Prelude.{◌≡◌, ℕ, ℤ, ◌+◌, ◌+ℤ◌, ◌<◌, ◌≤◌, ◌≤ℤ◌, ⊤, Bool, true, false, not, ◌&&◌, ◌||◌, if◌then◌else◌, List, [], ◌∷◌, length, map, filter, filter_map, take, count_by, Option, Some, None, IsSomeAnd, is_none, option_map, option_and_then, nat_lt, int_le}
 use Rattle.std.specs.List.{find, list_all}
-use Rattle.std.specs.declared.cmp.Ordering.TheVariants.{Less}
+use Rattle.std.specs.List.Sorted.{IsStrictlySortedBy}
 use Rattle.tf_model.specs.declared.task.State.{State}
 use Rattle.tf_model.specs.declared.task.State.TheVariants.{Stopped, Started, Indexing, Stopping, Failed}
 use Rattle.tf_model.specs.declared.doc.Doc.{Doc}
@@ -21,16 +21,6 @@ use Rattle.tf_history.specs.Lives.Act.{Opens, Reopens, Pages}
 abbrev pub is_empty : {X : Type 0} → List X → Bool
 is_empty [] = true
 is_empty (x ∷ xs) = false
-
--- a key that is below each of these
-abbrev pub IsBelowAll : Key → List Key → Type 0
-IsBelowAll k [] = ⊤
-IsBelowAll k (j ∷ keys) = (key_cmp k j ≡ Less) × IsBelowAll k keys
-
--- keys that ascend, each once
-abbrev pub IsAscending : List Key → Type 0
-IsAscending [] = ⊤
-IsAscending (k ∷ keys) = IsBelowAll k keys × IsAscending keys
 
 -- ---- lives
 -- no checkpoint is running
@@ -145,7 +135,7 @@ pub record MayPage (l : Life) (n : ℕ) (rows : List Row) : Type 0 where
   pub active : is_active l.state ≡ true
   pub some : 0 < length rows
   pub fits : length rows ≤ l.meaning.page_size
-  pub ascending : IsAscending (map row_key rows)
+  pub ascending : IsStrictlySortedBy key_cmp (map row_key rows)
   pub above : list_all (λ (r : Row). is_after l.position (row_key r)) rows ≡ true
 
 -- what a Fail tells of a sum
