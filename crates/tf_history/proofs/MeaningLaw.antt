@@ -201,6 +201,7 @@ meanings_agree sources c = record {
   row_is = row_is sources c;
   sum_range_is = sum_range_is sources c;
   grouping_is = grouping_is sources c;
+  retained_is = λ docs r. refl;
   stays_is = stays_is sources c;
   scratch_is = scratch_is sources c;
   next_bound_is = next_bound_is sources c;

@@ -29,6 +29,7 @@ pub record Agrees (sources : List ℕ) (c : Config) : Type 0 where
   pub row_is : (docs : List Doc) (k : Key) → row_of (meaning sources c) docs k ≡ model_scratch.row_of sources c docs k
   pub sum_range_is : (docs : List Doc) (k : Key) → sum_range (meaning sources c) docs k ≡ model_rows.sum_range c k docs
   pub grouping_is : (docs : List Doc) → grouping (meaning sources c) docs ≡ model_scratch.grouping sources c docs
+  pub retained_is : (docs : List Doc) (r : Row) → (meaning sources c).retained docs r ≡ model_retention.retained c docs r
   pub stays_is : (docs : List Doc) (cut : Option ℤ) (r : Row) → stays (meaning sources c) docs cut r ≡ model_retention.stays c docs cut r
   pub scratch_is : (bound cut : Option ℤ) (docs : List Doc) → scratch (meaning sources c) bound cut docs ≡ model_scratch.scratch sources c bound cut docs
   pub next_bound_is : (last : Option ℤ) (now : ℤ) → next_bound (meaning sources c) last now ≡ model_bounds.next_bound c last now

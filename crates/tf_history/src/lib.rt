@@ -110,7 +110,7 @@ pub fn moves_are_legal()
 {}
 
 /// The words of a meaning that is made from a configuration are those of the configuration itself: what counts, keys,
-/// rows, the grouping from scratch, bounds, cutoffs, windows, changed keys and what is due.
+/// rows, retention, the grouping from scratch, bounds, cutoffs, windows, changed keys and what is due.
 #[tactic(auto, using(crate::proofs::MeaningLaw::meanings_agree))]
 pub fn meanings_agree()
     ensures { MeaningsAgree }
