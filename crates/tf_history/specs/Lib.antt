@@ -1,0 +1,16 @@
+pub mod Meaning
+pub mod Events
+pub mod Grouping
+pub mod Lives
+pub mod Legality
+pub mod Laws
+pub mod Histories
+pub mod Catalogue
+pub mod Configured
+pub mod Reading
+pub mod Entries
+pub mod Agreement
+pub mod Acts
+pub mod Transforms
+pub mod LegalEntries
+pub mod ConfiguredLaws
