@@ -28,6 +28,7 @@ abbrev pub term_tree : Tree → Option (List (List ℕ × Tree)) → Option Tree
 term_tree t None = Some t
 term_tree t (Some members) = member_at members (codes "value")
 
+-- a term of a field, by its type
 abbrev pub term_beside : Mapping → List ℕ × Tree → Option Query
 term_beside fields m = option_map (query.Term m.0) (option_and_then (value_by (type_of fields m.0)) (term_tree m.1 (members_in m.1)))
 
@@ -39,6 +40,7 @@ term_in fields t = option_and_then (term_beside fields) (only (members_in t))
 abbrev pub exists_in : Tree → Option Query
 exists_in t = option_map query.Exists (option_and_then text_in (member_of t (codes "field")))
 
+-- an end that is given, open or closed
 abbrev pub with_end : Bool → Option Value → Option (Option Value × Bool)
 with_end is_open found = option_map (λ v. (Some v, is_open)) found
 
@@ -55,11 +57,13 @@ range_of field (None, low_open) (None, high_open) = None
 range_of field (Some low, low_open) high = Some (query.Range field (Some low) low_open high.0 high.1)
 range_of field (None, low_open) (Some high, high_open) = Some (query.Range field None low_open (Some high) high_open)
 
+-- a range of a field, by the values that its ends may have
 abbrev pub range_by : List ℕ → (Tree → Option Value) → Tree → Option Query
 range_by field value t =
     option_and_then (λ low. option_and_then (range_of field low) (end_of value (member_of t (codes "lte")) (member_of t (codes "lt"))))
     (end_of value (member_of t (codes "gte")) (member_of t (codes "gt")))
 
+-- a range of a field, by its type
 abbrev pub range_beside : Mapping → List ℕ × Tree → Option Query
 range_beside fields m = range_by m.0 (value_by (type_of fields m.0)) m.1
 
@@ -91,6 +95,7 @@ no_query t = record { itself = t; query = None; queries = None; clauses = None }
 abbrev pub query_beside : Mapping → List ℕ × Part → Option Query
 query_beside fields m = if bytes_eq m.0 (codes "bool") then m.1.clauses else leaf_in fields m.0 m.1.itself
 
+-- the query that an object is: it has one member, its kind
 abbrev pub query_from : Mapping → List (List ℕ × Part) → Option Query
 query_from fields members = option_and_then (query_beside fields) (only (Some members))
 
@@ -108,6 +113,7 @@ clause name (m ∷ members) = if bytes_eq m.0 name then m.1.queries else clause 
 abbrev pub bool_of : List Query → List Query → List Query → Query
 bool_of filter must must_not = query.Bool (filter ++ must) must_not
 
+-- the query that the lists beside `bool` make, where each list is absent or has queries alone
 abbrev pub clauses_from : List (List ℕ × Part) → Option Query
 clauses_from members =
     option_and_then (λ filter. option_and_then (λ must. option_map (bool_of filter must) (clause (codes "must_not") members)) (clause (codes "must") members))
@@ -126,6 +132,7 @@ object_part fields members = record {
   clauses = clauses_from members;
 }
 
+-- one level of a tree, with what each tree inside is in its place
 abbrev pub part_step : Mapping → Tree-F Part → Part
 part_step fields Tree-F.Null = no_query tree.Null
 part_step fields (Tree-F.Bool b) = no_query (tree.Bool b)

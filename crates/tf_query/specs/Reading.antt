@@ -13,10 +13,12 @@ use Rattle.tf_query.specs.Unknown.{unknown_in, least_text}
 use Rattle.tf_model.specs.Values.{type_of}
 use Rattle.tf_query.specs.Queries.{query_in}
 
+-- the greatest of numbers, 0 of none
 abbrev pub greatest : List ℕ → ℕ
 greatest [] = 0
 greatest (n ∷ ns) = max n (greatest ns)
 
+-- one level of a query, with the nesting of each query inside in its place
 abbrev pub nesting_step : Query-F ℕ → ℕ
 nesting_step Query-F.MatchAll = 1
 nesting_step (Query-F.Term field value) = 1
@@ -28,6 +30,7 @@ nesting_step (Query-F.Bool met unmet) = 1 + max (greatest met) (greatest unmet)
 unfoldable pub nesting : Query → ℕ
 nesting = fold-Query ℕ nesting_step
 
+-- one level of a query, with the fields of each query inside in its place
 abbrev pub fields_step : Query-F (List (List ℕ)) → List (List ℕ)
 fields_step Query-F.MatchAll = []
 fields_step (Query-F.Term field value) = field ∷ []
@@ -51,17 +54,21 @@ unmapped_in fields q = least_text (filter (is_unmapped fields) (fields_in q))
 abbrev pub query_path : List ℕ
 query_path = codes "source.query"
 
+-- a field that is not mapped is refused
 abbrev pub if_mapped : Query → Option (List ℕ) → Result Query QueryError
 if_mapped q None = Ok q
 if_mapped q (Some field) = Err (error.NoSuchField field)
 
+-- queries nested more than 16 deep are refused, and then fields
 abbrev pub if_nested : Mapping → Query → Result Query QueryError
 if_nested fields q = if nat_le (nesting q) 16 then if_mapped q (unmapped_in fields q) else Err (error.TooDeep (codes "query"))
 
+-- a tree that is no query is refused, and then nesting and fields
 abbrev pub if_formed : Mapping → Option Query → Result Query QueryError
 if_formed fields None = Err (error.WrongKind query_path)
 if_formed fields (Some q) = if_nested fields q
 
+-- an unknown member is refused, and then the form, nesting and fields
 abbrev pub if_known : Mapping → Tree → Option (List ℕ) → Result Query QueryError
 if_known fields t (Some path) = Err (error.Unknown path)
 if_known fields t None = if_formed fields (query_in fields t)

@@ -53,6 +53,7 @@ member_in form.Ranges name = member.Part form.Ends
 member_in form.Ends name = by_name (codes "gte" ∷ codes "gt" ∷ codes "lte" ∷ codes "lt" ∷ []) member.Value name
 member_in form.Exists name = by_name (codes "field" ∷ []) member.Value name
 
+-- whether a member is outside the forms
 abbrev pub is_unknown : Member → Bool
 is_unknown member.Unknown = true
 is_unknown _ = false
@@ -65,6 +66,7 @@ joined path piece = path ++ 46 ∷ piece
 abbrev pub Paths : Type 0
 Paths = Form → List ℕ → List (List ℕ)
 
+-- what is unknown inside a member, which has a form of its own or none to look into
 abbrev pub in_part : Member → Paths → List ℕ → List (List ℕ)
 in_part (member.Part part) inner path = inner part path
 in_part _ inner path = []
@@ -82,6 +84,7 @@ first_unknown form names = least_text (filter (λ name. is_unknown (member_in fo
 abbrev pub in_object : Form → List ℕ → List (List ℕ × Paths) → List (List ℕ)
 in_object form path members = option_to_list (option_map (joined path) (first_unknown form (map (λ m. m.0) members))) ++ in_members form path members
 
+-- what is unknown inside the items of a list of queries, counted from a place
 abbrev pub in_items : ℕ → List ℕ → List Paths → List (List ℕ)
 in_items place path [] = []
 in_items place path (item ∷ items) = item form.Query (joined path (decimal place)) ++ in_items (place + 1) path items
@@ -91,6 +94,7 @@ abbrev pub in_array : Form → List ℕ → List Paths → List (List ℕ)
 in_array form.Queries path items = in_items 0 path items
 in_array _ path items = []
 
+-- one level of a tree, with what is unknown in each tree inside in its place
 abbrev pub unknown_step : Tree-F Paths → Paths
 unknown_step (Tree-F.Obj members) form path = in_object form path members
 unknown_step (Tree-F.Arr items) form path = in_array form path items
@@ -100,15 +104,18 @@ unknown_step _ form path = []
 unfoldable pub unknown_in : Tree → Paths
 unknown_in = fold-Tree Paths unknown_step
 
--- the same of a tree's parts: inside one member, inside members, of an object and inside items
+-- the same of parts of a tree: inside one member
 abbrev pub unknown_member : Form → List ℕ → List ℕ → Tree → List (List ℕ)
 unknown_member form path name t = in_part (member_in form name) (unknown_in t) (joined path name)
 
+-- inside the members of an object
 abbrev pub unknown_members : Form → List ℕ → List (List ℕ × Tree) → List (List ℕ)
 unknown_members form path members = in_members form path (map (λ m. (m.0, unknown_in m.1)) members)
 
+-- of an object
 abbrev pub unknown_object : Form → List ℕ → List (List ℕ × Tree) → List (List ℕ)
 unknown_object form path members = option_to_list (option_map (joined path) (first_unknown form (map (λ m. m.0) members))) ++ unknown_members form path members
 
+-- inside items, counted from a place
 abbrev pub unknown_items : ℕ → List ℕ → List Tree → List (List ℕ)
 unknown_items place path items = in_items place path (map unknown_in items)
