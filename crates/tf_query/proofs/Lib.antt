@@ -1,0 +1,5 @@
+pub mod UnknownLaws
+pub mod PartLaws
+pub mod NestingLaws
+pub mod FieldLaws
+mod Examples

@@ -1,0 +1,4 @@
+pub mod Unknown
+pub mod Values
+pub mod Queries
+pub mod Reading
