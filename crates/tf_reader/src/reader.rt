@@ -38,8 +38,8 @@ impl Model for Reader {
 }
 
 impl Reader {
-    /// The reader of these runs, which are moved: fewer than 2^32, each of fewer than 2^32 documents, and of at most 2^40
-    /// documents together. Takes no memory.
+    /// The reader of these runs, which are moved: fewer than 2^32, each of fewer than 2^32 documents, and of at most
+    /// 2^40 documents together. Takes no memory.
     pub fn new(runs: List<Run>) -> Reader
         requires { IsShort runs }
         ensures { result ≡ runs }
@@ -55,8 +55,8 @@ impl Reader {
     }
 
     /// The places, in their order, of the documents of a window: those that match the query, with a sync value below
-    /// `high` where that is given, and not below `low` where that is given. `OutOfMemory` comes where no memory is found
-    /// for the places.
+    /// `high` where that is given, and not below `low` where that is given. `OutOfMemory` comes where no memory is
+    /// found for the places.
     pub fn window(
         &self,
         alloc: Global,
@@ -70,8 +70,8 @@ impl Reader {
         scan_runs(alloc, self.runs.as_slice(), config, low, high)
     }
 
-    /// The places, in their order, of the documents that match the query and have a sync value below `high`, where that is
-    /// given. `OutOfMemory` comes where no memory is found for the places.
+    /// The places, in their order, of the documents that match the query and have a sync value below `high`, where that
+    /// is given. `OutOfMemory` comes where no memory is found for the places.
     #[tactic(auto, using(tf_model::proofs::WindowLaws::window_of_all))]
     pub fn counted(
         &self,
