@@ -1,0 +1,30 @@
+use Rattle.std.proofs.Common.{◌≡◌, ◌+◌, ◌<◌, All, length, map, take, drop, get_or, sym, subst, ap, ◌∙◌, arith, slice_set, length-set}
+use Rattle.std.proofs.lemmas.List.{get_or-map, length-map}
+use Rattle.tf_fold.specs.Bounds.{IsPartWithin}
+use Rattle.tf_fold.specs.Parts.{joined, part_in}
+use Rattle.tf_fold.proofs.Joined.{within_at, joined_more, rest_more, within_more}
+use Rattle.tf_fold.proofs.parts.add_parts.Goals as goal
+
+pub join-joined-requires-clause-part : goal.join-joined-requires-clause-part
+join-joined-requires-clause-part c =
+    within_at (IsPartWithin c.args.weight) c.loop-at.parts c.args.parts.now c.loop-at.at c.index.result.now
+    c.requires.within c.loop-at.invariant.rest (omega (arith, c.loop-at-test.true, c.requires.same)) c.index.ensures
+
+pub loop-at-preserved : goal.loop-at-preserved
+loop-at-preserved c =
+    let inv = c.loop-at.invariant in
+    let aggs = c.args.aggs.now in
+    let lt : c.loop-at.at < length c.loop-at.parts = omega (arith, c.loop-at-test.true, c.requires.same, inv.same) in
+    let new : c.set.new.self ≡ slice_set c.loop-at.parts c.loop-at.at (joined c.index.result.now c.part_of-more.result) =
+    c.set.ensures ∙ ap (slice_set c.loop-at.parts c.loop-at.at) c.join-joined.ensures.value in
+    let more : c.part_of-more.result ≡ get_or (map (part_in c.args.doc.now) aggs) c.loop-at.at c.part_of-more.result =
+    c.part_of-more.ensures.value ∙ ap (part_in c.args.doc.now) c.index-aggs-at.is
+    ∙ sym (get_or-map (part_in c.args.doc.now) aggs c.loop-at.at c.index-aggs-at.result c.part_of-more.result c.loop-at-test.true) in
+    record {
+      joined = ap (take (c.loop-at.at + 1)) new ∙ joined_more c.loop-at.parts c.args.parts.now (map (part_in c.args.doc.now) aggs) c.loop-at.at c.index.result.now c.part_of-more.result
+          lt inv.same (c.requires.same ∙ sym (length-map aggs (part_in c.args.doc.now))) c.index.ensures more inv.joined inv.rest;
+      rest = ap (drop (c.loop-at.at + 1)) c.set.ensures ∙ rest_more c.loop-at.parts c.args.parts.now c.loop-at.at c.join-joined.result inv.rest;
+      same = ap length c.set.ensures ∙ length-set c.loop-at.parts c.loop-at.at c.join-joined.result ∙ inv.same;
+      within = subst (λ ps. All (IsPartWithin (c.args.weight + 1)) (take (c.loop-at.at + 1) ps)) (sym c.set.ensures)
+          (within_more (IsPartWithin (c.args.weight + 1)) c.loop-at.parts c.loop-at.at c.join-joined.result lt inv.within c.join-joined.ensures.within);
+    }

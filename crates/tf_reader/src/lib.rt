@@ -1,0 +1,11 @@
+//! Readers: the documents of some runs as one list, in which windows are found and documents fetched.
+#![tactic(auto)]
+
+mod place;
+mod reader;
+mod scanning;
+#[cfg(test)]
+mod tests;
+
+pub use place::Place;
+pub use reader::Reader;
