@@ -9,3 +9,6 @@ mod changed;
 mod least;
 
 pub use changed::{Changed, changed_after};
+
+#[cfg(test)]
+mod tests;
