@@ -10,3 +10,6 @@ mod rows;
 
 pub use error::PivotError;
 pub use rows::rows_for;
+
+#[cfg(test)]
+mod tests;
