@@ -1,5 +1,5 @@
 -- How a reading of the source ends.
-use Rattle.std.proofs.Common.{◌≡◌, ◌≢◌, ℕ, List, ◌≤◌, refl}
+use Rattle.std.proofs.Common.{◌≢◌, ℕ, List, ◌≤◌, refl}
 use Rattle.std.specs.declared.option.Option.{Option}
 use Rattle.tf_io.specs.Reads.{TakesCount, IsReadRefusal}
 use Rattle.tf_io.specs.declared.lines.ReadError.{ReadError}

@@ -1,1 +1,15 @@
+pub mod Steps
+pub mod Moves
+pub mod Pages
+pub mod Sums
+pub mod Fitting
+pub mod Engines
+pub mod Placed
+pub mod LastKey
+pub mod NextPage
+pub mod Settling
 pub mod Ends
+pub mod Keeping
+pub mod Members
+pub mod Done
+pub mod Grouped

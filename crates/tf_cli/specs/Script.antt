@@ -1,37 +1,44 @@
 -- What the lines of a script do to the history, and what is replied to them.
-use Rattle.std.specs.Prelude.{ℕ, ◌+◌, List, [], ◌∷◌, ◌++◌, length}
+use Rattle.std.specs.Prelude.{ℕ, ◌+◌, ◌<◌, ◌≡◌, List, [], ◌∷◌, ◌++◌, reverse, take, Some, if◌then◌else◌}
 use Rattle.tf_model.specs.declared.entry.Entry.{Entry}
-use Rattle.tf_cli.specs.declared.asking.Asked.{Asked}
-use Rattle.tf_cli.specs.declared.asking.Asked.TheVariants.{Skipped, Refused, Accepted}
-use Rattle.tf_cli.specs.Asking.{asked}
-use Rattle.tf_cli.specs.Replies.{refusal, created, reply_line}
+use Rattle.tf_history.specs.Entries.{IsGroupedBy, read as read_history}
+use Rattle.tf_history.specs.Legality.{IsIdle}
+use Rattle.tf_history.specs.Lives.{Life, life}
+use Rattle.tf_history.specs.Transforms.{PutTransform, transform_of}
+use Rattle.tf_cli.specs.Asking.{Asked, asked}
+use Rattle.tf_cli.specs.Commands.{is_blank}
+use Rattle.tf_cli.specs.Moves.{settled}
+use Rattle.tf_cli.specs.Replies.{reply, reply_line}
+use Rattle.tf_cli.specs.Values.{values_of}
 
--- the history after what is asked for
+-- the past after what is asked for
 abbrev pub after_asked : List Entry → Asked → List Entry
-after_asked history Skipped = history
-after_asked history (Refused error) = history
-after_asked history (Accepted entry) = history ++ entry ∷ []
+after_asked past Asked.Skipped = past
+after_asked past (Asked.Refused error) = past
+after_asked past (Asked.Accepted entry) = entry ∷ past
+after_asked past Asked.Settles = settled past
+after_asked past Asked.Shows = past
 
--- the reply by a line's number, the entries that the history has then, and what was asked for; none to a blank line
-abbrev pub replied : ℕ → ℕ → Asked → List ℕ
-replied line count Skipped = []
-replied line count (Refused error) = reply_line (refusal line count error)
-replied line count (Accepted entry) = reply_line (created line count)
-
--- the history after a line
+-- the past after a line
 abbrev pub after_line : List Entry → List ℕ → List Entry
-after_line history line = after_asked history (asked history line)
+after_line past line = after_asked past (asked past line)
 
--- the reply to a line, by its number
+-- the reply to a line, by its number; none to a blank line
 abbrev pub reply_to : List Entry → ℕ → List ℕ → List ℕ
-reply_to history number line = replied number (length (after_line history line)) (asked history line)
+reply_to past number line = if is_blank line then [] else reply_line (reply number (after_line past line) (asked past line))
 
--- the replies to lines from a number on, done in order from a history
+-- the replies to lines from a number on, done in order from a past
 abbrev pub output : List Entry → ℕ → List (List ℕ) → List ℕ
-output history number [] = []
-output history number (line ∷ lines) = reply_to history number line ++ output (after_line history line) (number + 1) lines
+output past number [] = []
+output past number (line ∷ lines) = reply_to past number line ++ output (after_line past line) (number + 1) lines
 
--- the history when the lines are done
+-- the past when the lines are done
 abbrev pub after : List Entry → List (List ℕ) → List Entry
-after history [] = history
-after history (line ∷ lines) = after (after_line history line) lines
+after past [] = past
+after past (line ∷ lines) = after (after_line past line) lines
+
+-- Wherever a history, oldest entry first, has a finished transform, its rows are the grouping from scratch of the documents
+-- that its checkpoint read.
+abbrev pub IsGrouped : List Entry → Type 0
+IsGrouped history = (k : ℕ) (t : List ℕ) (p : PutTransform) (l : Life) → transform_of t (reverse (take k history)) ≡ Some p → life t (read_history values_of (take k history)) ≡ Some l
+    → IsIdle l → 0 < l.finished → IsGroupedBy p l (read_history values_of (take k history))

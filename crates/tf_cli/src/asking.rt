@@ -1,92 +1,125 @@
-// What a line asks for after a history.
-ghost use Rattle.std.specs.Prelude.{◌≡◌, IfOk, false, pos, None};
+// Why lines are refused, and what commands are asked against.
+ghost use Rattle.std.specs.Prelude.{◌≡◌, map};
+ghost use Rattle.std.specs.List.{list_all, list_any};
+ghost use Rattle.std.specs.Str.{bytes_eq};
+ghost use Rattle.std.specs.Arc.{arc_value};
 ghost use Rattle.tf_cli.specs.Asking as spec;
-ghost use Rattle.tf_cli.specs.Commands as commands;
-ghost use Rattle.tf_cli.specs.Replies.{error_name};
+ghost use Rattle.tf_cli.specs.Engine.{source_index};
+ghost use Rattle.tf_cli.specs.Values as values;
 
-use crate::command::{Command, read_command};
+use crate::engine::IndexMade;
 use std::alloc::Global;
-use tf_json::{JsonError, read_object};
-use tf_model::{Entry, Kind, List, Mapping, OutOfMemory, Text, Tree};
+use std::sync::Arc;
+use tf_model::{Config, Doc, FieldType, List, Shape, Text};
 
-const MAX_LINE: usize = 1_048_576;
+// How many documents the index may have.
+const MAX_DOCS: usize = 500;
 
 /// Why a line is refused.
-#[derive(Clone, Copy, Debug, PartialEq, Eq)]
+#[derive(Drop)]
 pub enum LineError {
     /// The line is no JSON object.
     BadJson,
     /// The line has none of the forms that are built.
     UnsupportedYet,
+    /// No index or destination has this name.
+    NoSuchIndex(Text),
 }
 
-impl LineError {
-    pub fn name(self) -> &'static str
-        ensures { result.now ≡ error_name self }
-    {
-        match self {
-            LineError::BadJson => "bad_json",
-            LineError::UnsupportedYet => "unsupported_yet",
+/// Whether a configuration reads the index alone, groups by keywords and sums longs, and has a destination of another
+/// name.
+pub fn fits_index(config: &Config, index: &IndexMade) -> bool
+    ensures { result ≡ spec.fits_index config.now (source_index index.now) }
+{
+    let name = index.name.as_str();
+    let fields = index.mapping.fields.as_slice();
+    reads_only(config.sources.as_slice(), name)
+        && config.dest.as_str() != name
+        && groups_keywords(&config.shape, fields)
+        && sums_longs(&config.shape, fields)
+}
+
+// Whether every source has this name.
+fn reads_only(sources: &[Text], name: &str) -> bool
+    ensures { result ≡ list_all (λ source. bytes_eq source name.now) sources.now }
+{
+    for source in sources {
+        if source.as_str() != name {
+            return false;
         }
     }
+    true
 }
 
-/// What a line asks for.
-#[derive(Drop)]
-pub enum Asked {
-    Skipped,
-    Refused(LineError),
-    Accepted(Entry),
-}
-
-/// What a line asks for after a history.
-pub fn ask(alloc: Global, history: &List<Entry>, line: &[u8]) -> Result<Asked, OutOfMemory>
-    ensures { IfOk result (λ asked. asked ≡ spec.asked history.now line.now) }
+fn groups_keywords(shape: &Shape, fields: &[(Text, FieldType)]) -> bool
+    ensures { result ≡ spec.groups_keywords shape.now fields.now }
 {
-    if is_blank(line) {
-        return Ok(Asked::Skipped);
-    }
-    if line.len() > MAX_LINE {
-        return Ok(Asked::Refused(LineError::UnsupportedYet));
-    }
-    match read_object(alloc, line) {
-        Ok(tree) => ask_tree(alloc, history, &tree),
-        Err(JsonError::NotJson) => Ok(Asked::Refused(LineError::BadJson)),
-        Err(JsonError::Fraction { .. }) => Ok(Asked::Refused(LineError::UnsupportedYet)),
-        Err(JsonError::Memory) => Err(OutOfMemory),
+    match shape {
+        Shape::Pivot { groups, .. } => groups
+            .as_slice()
+            .iter()
+            .all(|group| is_keyword(type_at(fields, group.field.as_str()))),
+        Shape::Latest { .. } => true,
     }
 }
 
-fn ask_tree(alloc: Global, history: &List<Entry>, tree: &Tree) -> Result<Asked, OutOfMemory>
-    ensures { IfOk result (λ asked. asked ≡ spec.asked_by history.now (commands.command_of tree.now)) }
+fn sums_longs(shape: &Shape, fields: &[(Text, FieldType)]) -> bool
+    ensures { result ≡ spec.sums_longs shape.now fields.now }
 {
-    match read_command(alloc, tree)? {
-        Some(Command::CreateIndex { index, mapping }) if history.is_empty() => {
-            Ok(Asked::Accepted(index_entry(index, mapping)))
+    match shape {
+        Shape::Pivot { aggs, .. } => aggs
+            .as_slice()
+            .iter()
+            .all(|agg| is_long(type_at(fields, agg.field.as_str()))),
+        Shape::Latest { .. } => true,
+    }
+}
+
+fn is_keyword(kind: Option<FieldType>) -> bool
+    ensures { result ≡ spec.is_keyword kind }
+{
+    match kind {
+        Some(FieldType::Keyword) => true,
+        _ => false,
+    }
+}
+
+fn is_long(kind: Option<FieldType>) -> bool
+    ensures { result ≡ spec.is_long kind }
+{
+    match kind {
+        Some(FieldType::Long) => true,
+        _ => false,
+    }
+}
+
+// The type of a field.
+fn type_at(fields: &[(Text, FieldType)], name: &str) -> Option<FieldType>
+    ensures { result ≡ spec.type_at fields.now name.now }
+{
+    for field in fields {
+        if field.0.as_str() == name {
+            return Some(field.1);
         }
-        _ => Ok(Asked::Refused(LineError::UnsupportedYet)),
     }
+    None
 }
 
-fn index_entry(index: Text, mapping: Mapping) -> Entry
-    ensures { result ≡ spec.index_entry index mapping }
+/// Whether the index takes one more document, with this id.
+pub fn has_room(docs: &[Arc<Doc, Global>], id: &str) -> bool
+    ensures { result ≡ values.has_room (map (λ doc. arc_value doc) docs.now) id.now }
 {
-    Entry {
-        at_ms: 0,
-        actor: 0,
-        kind: Kind::Index {
-            name: index,
-            shards: 1,
-            mapping,
-            stamp: None,
-            quick: false,
-        },
-    }
+    docs.len() < MAX_DOCS && !is_used(docs, id)
 }
 
-fn is_blank(line: &[u8]) -> bool
-    ensures { result ≡ commands.is_blank line.now }
+// Whether a document has this id.
+fn is_used(docs: &[Arc<Doc, Global>], id: &str) -> bool
+    ensures { result ≡ list_any (values.has_id id.now) (map (λ doc. arc_value doc) docs.now) }
 {
-    line.iter()
-        .all(|byte| *byte == b' ' || *byte == b'\t' || *byte == b'\r')
+    for doc in docs {
+        if doc.id.as_str() == id {
+            return true;
+        }
+    }
+    false
 }

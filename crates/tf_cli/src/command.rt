@@ -1,27 +1,56 @@
 // The commands of a script.
-ghost use Rattle.std.specs.Prelude.{◌≡◌, IfOk, map, option_map, option_and_then};
+ghost use Rattle.std.specs.Prelude.{◌≡◌, IfOk, option_map, option_and_then};
 ghost use Rattle.std.specs.Option.{option_copied};
 ghost use Rattle.tf_cli.specs.Commands as spec;
 
+use crate::config::{ConfigForm, read_config};
+use crate::forms::{has_only, index_of, take_member, text_of};
+use crate::mapping::read_mapping;
 use std::alloc::Global;
-use tf_model::{FieldType, List, Mapping, OutOfMemory, Text, Tree, is_field_path, is_index_name};
-
-// How many fields a mapping may have.
-const MAX_FIELDS: usize = 64;
+use tf_model::{Mapping, OutOfMemory, Text, Tree, is_transform_id};
 
 /// A command, as its line's form gives it.
 #[derive(Drop)]
 pub enum Command {
     CreateIndex { index: Text, mapping: Mapping },
+    IndexDocument { index: Text, id: Text, doc: Tree },
+    PutTransform { id: Text, config: ConfigForm },
+    Start { id: Text },
+    Settle,
+    Search { index: Text },
 }
 
 /// The command that an object is, and `None` where it has none of the forms.
-pub fn read_command(alloc: Global, tree: &Tree) -> Result<Option<Command>, OutOfMemory>
-    ensures { IfOk result (λ command. command ≡ spec.command_of tree.now) }
+pub fn read_command(alloc: Global, tree: Tree) -> Result<Option<Command>, OutOfMemory>
+    ensures { IfOk result (λ command. command ≡ spec.command_of tree) }
 {
-    match text_of(tree, "op") {
-        Some("create_index") => read_create_index(alloc, tree),
-        _ => Ok(None),
+    let Some(op) = text_of(&tree, "op") else {
+        return Ok(None);
+    };
+    if op == "create_index" {
+        read_create_index(alloc, &tree)
+    } else if op == "index" {
+        read_index_document(alloc, tree)
+    } else if op == "put_transform" {
+        read_put(alloc, &tree)
+    } else if op == "start" {
+        read_start(alloc, &tree)
+    } else if op == "settle" {
+        Ok(read_settle(&tree))
+    } else if op == "search" {
+        read_search(alloc, &tree)
+    } else {
+        Ok(None)
+    }
+}
+
+fn read_settle(tree: &Tree) -> Option<Command>
+    ensures { result ≡ spec.settle tree.now }
+{
+    if has_only(&["op"], tree) {
+        Some(Command::Settle)
+    } else {
+        None
     }
 }
 
@@ -41,96 +70,97 @@ fn read_create_index(alloc: Global, tree: &Tree) -> Result<Option<Command>, OutO
     Ok(Some(Command::CreateIndex { index, mapping }))
 }
 
-// The text of a member.
-fn text_of<'a>(tree: &'a Tree, name: &str) -> Option<&'a str>
-    ensures { option_map (λ text. text.now) result ≡ spec.text_of tree.now name.now }
+fn read_index_document(alloc: Global, tree: Tree) -> Result<Option<Command>, OutOfMemory>
+    ensures { IfOk result (λ command. command ≡ spec.index_command tree) }
 {
-    Some(tree.get(name)?.as_text()?.as_str())
-}
-
-// Whether a tree is an object with no other members than these.
-fn has_only(names: &[&str], tree: &Tree) -> bool
-    ensures { result ≡ spec.has_only (map (λ name. name.now) names.now) tree.now }
-{
-    let Some(members) = tree.as_object() else {
-        return false;
+    if !has_only(&["op", "index", "id", "doc"], &tree) {
+        return Ok(None);
+    }
+    let Some(index) = index_of(&tree) else {
+        return Ok(None);
     };
-    for (name, _) in members.as_slice() {
-        if !is_among(names, name.as_str()) {
-            return false;
-        }
+    let Some(id) = document_id(&tree) else {
+        return Ok(None);
+    };
+    let index = Text::from_str(alloc, index)?;
+    let id = Text::from_str(alloc, id)?;
+    match object_of(tree, "doc") {
+        Some(doc) => Ok(Some(Command::IndexDocument { index, id, doc })),
+        None => Ok(None),
     }
-    true
 }
 
-fn is_among(names: &[&str], name: &str) -> bool
-    ensures { result ≡ spec.is_among (map (λ other. other.now) names.now) name.now }
+// The id of a document, 1 to 512 bytes.
+fn document_id(tree: &Tree) -> Option<&str>
+    ensures { option_map (λ id. id.now) result ≡ spec.document_id tree.now }
 {
-    for other in names {
-        if *other == name {
-            return true;
-        }
-    }
-    false
-}
-
-fn index_of(tree: &Tree) -> Option<&str>
-    ensures { option_map (λ name. name.now) result ≡ spec.index_of tree.now }
-{
-    let name = text_of(tree, "index")?;
-    if is_index_name(name) {
-        Some(name)
+    let id = text_of(tree, "id")?;
+    if id.len() >= 1 && id.len() <= 512 {
+        Some(id)
     } else {
         None
     }
 }
 
-fn read_mapping(alloc: Global, tree: Option<&Tree>) -> Result<Option<Mapping>, OutOfMemory>
-    ensures { IfOk result (λ mapping. mapping ≡ option_and_then spec.mapping_of (option_copied tree.entry)) }
+// The member of an object, where it is an object.
+fn object_of(tree: Tree, name: &str) -> Option<Tree>
+    ensures { result ≡ spec.object_of tree name.now }
 {
-    let Some(tree) = tree else {
+    let member = take_member(tree.into_object()?, name)?;
+    if member.as_object().is_some() {
+        Some(member)
+    } else {
+        None
+    }
+}
+
+fn transform_id(tree: &Tree) -> Option<&str>
+    ensures { option_map (λ id. id.now) result ≡ spec.transform_id tree.now }
+{
+    let id = text_of(tree, "id")?;
+    if is_transform_id(id) { Some(id) } else { None }
+}
+
+fn read_start(alloc: Global, tree: &Tree) -> Result<Option<Command>, OutOfMemory>
+    ensures { IfOk result (λ command. command ≡ spec.start tree.now) }
+{
+    if !has_only(&["op", "id"], tree) {
+        return Ok(None);
+    }
+    match transform_id(tree) {
+        Some(id) => Ok(Some(Command::Start {
+            id: Text::from_str(alloc, id)?,
+        })),
+        None => Ok(None),
+    }
+}
+
+fn read_search(alloc: Global, tree: &Tree) -> Result<Option<Command>, OutOfMemory>
+    ensures { IfOk result (λ command. command ≡ spec.search_command tree.now) }
+{
+    if !has_only(&["op", "index"], tree) {
+        return Ok(None);
+    }
+    match index_of(tree) {
+        Some(index) => Ok(Some(Command::Search {
+            index: Text::from_str(alloc, index)?,
+        })),
+        None => Ok(None),
+    }
+}
+
+fn read_put(alloc: Global, tree: &Tree) -> Result<Option<Command>, OutOfMemory>
+    ensures { IfOk result (λ command. command ≡ spec.put_transform tree.now) }
+{
+    if !has_only(&["op", "id", "config"], tree) {
+        return Ok(None);
+    }
+    let Some(id) = transform_id(tree) else {
         return Ok(None);
     };
-    if !has_only(&["properties"], tree) {
+    let Some(config) = read_config(alloc, tree.get("config"))? else {
         return Ok(None);
-    }
-    match tree.get("properties").and_then(Tree::as_object) {
-        None => Ok(None),
-        Some(properties) => read_fields(alloc, properties.as_slice()),
-    }
-}
-
-fn read_fields(alloc: Global, properties: &[(Text, Tree)]) -> Result<Option<Mapping>, OutOfMemory>
-    ensures { IfOk result (λ mapping. mapping ≡ spec.mapping_from properties.now) }
-{
-    if properties.len() > MAX_FIELDS {
-        return Ok(None);
-    }
-    let mut fields = List::new(alloc);
-    for property in properties {
-        match field_type(property) {
-            None => return Ok(None),
-            Some(kind) => fields.push((property.0.copy(alloc)?, kind))?,
-        }
-    }
-    Ok(Some(Mapping { fields }))
-}
-
-fn field_type(property: &(Text, Tree)) -> Option<FieldType>
-    ensures { option_map (λ kind. (property.now.0, kind)) result ≡ spec.field_of property.now }
-{
-    if !is_plain(property.0.as_str()) || !has_only(&["type"], &property.1) {
-        return None;
-    }
-    match text_of(&property.1, "type") {
-        Some("keyword") => Some(FieldType::Keyword),
-        Some("long") => Some(FieldType::Long),
-        _ => None,
-    }
-}
-
-fn is_plain(name: &str) -> bool
-    ensures { result ≡ spec.is_plain name.now }
-{
-    is_field_path(name) && !name.as_bytes().contains(&b'.')
+    };
+    let id = Text::from_str(alloc, id)?;
+    Ok(Some(Command::PutTransform { id, config }))
 }

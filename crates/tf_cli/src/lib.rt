@@ -3,9 +3,18 @@
 
 mod asking;
 mod command;
+mod config;
+mod doing;
+mod engine;
+mod forms;
+mod mapping;
+mod moving;
+mod paging;
 mod replies;
+mod rows;
 mod script;
 mod top;
+mod values;
 mod words;
 
 pub use top::{End, run_top};

@@ -11,6 +11,10 @@ const SCRIPT: &[u8] =
 const REPLIES: &[u8] =
     b"{\"line\":1,\"no\":1,\"result\":\"created\"}\n{\"error\":\"bad_json\",\"line\":3,\"no\":1}\n{\"error\":\"bad_json\",\"line\":4,\"no\":1}\n";
 
+// The lines that lead to a destination with two rows, in eight entries.
+const PIVOT: &str =
+    "{\"op\":\"create_index\",\"index\":\"s\",\"mappings\":{\"properties\":{\"k\":{\"type\":\"keyword\"},\"v\":{\"type\":\"long\"}}}}\n{\"op\":\"index\",\"index\":\"s\",\"id\":\"1\",\"doc\":{\"k\":\"a\",\"v\":-5}}\n{\"op\":\"put_transform\",\"id\":\"t\",\"config\":{\"source\":{\"index\":\"s\"},\"dest\":{\"index\":\"d\"},\"pivot\":{\"group_by\":{\"z\":{\"terms\":{\"field\":\"k\"}}},\"aggregations\":{\"n\":{\"sum\":{\"field\":\"v\"}}}}}}\n{\"op\":\"start\",\"id\":\"t\"}\n{\"op\":\"settle\"}\n";
+
 fn words(alloc: Global, all: &[&str]) -> Result<Vec<String>, Fail> {
     let mut words = Vec::new(alloc);
     for word in all {
@@ -34,6 +38,67 @@ fn a_script_is_answered(rt: HostRuntime) -> Result<(), Fail> {
     assert_eq!(rt; end, End::new(0, 0));
     assert_eq!(rt; out.bytes(), REPLIES);
     assert_eq!(rt; calls, 0);
+    Ok(())
+}
+
+#[test]
+fn lines_after_a_finished_checkpoint(rt: HostRuntime) -> Result<(), Fail> {
+    // Each line after those of the pivot, and the reply to it.
+    let rows: [(&str, &str); 11] = [
+        (
+            "{\"op\":\"search\",\"index\":\"d\"}",
+            "{\"hits\":[{\"_id\":\"[\\\"a\\\"]\",\"_source\":{\"n\":-5,\"z\":\"a\"}}],\"line\":6,\"no\":8,\"total\":1}\n",
+        ),
+        (
+            "{\"op\":\"search\",\"index\":\"e\"}",
+            "{\"error\":\"no_such_index\",\"line\":6,\"name\":\"e\",\"no\":8}\n",
+        ),
+        (
+            "{\"op\":\"search\",\"index\":\"s\"}",
+            "{\"error\":\"unsupported_yet\",\"line\":6,\"no\":8}\n",
+        ),
+        (
+            "{\"op\":\"index\",\"index\":\"e\",\"id\":\"2\",\"doc\":{}}",
+            "{\"error\":\"no_such_index\",\"line\":6,\"name\":\"e\",\"no\":8}\n",
+        ),
+        (
+            "{\"op\":\"index\",\"index\":\"d\",\"id\":\"2\",\"doc\":{}}",
+            "{\"error\":\"unsupported_yet\",\"line\":6,\"no\":8}\n",
+        ),
+        (
+            "{\"op\":\"index\",\"index\":\"s\",\"id\":\"1\",\"doc\":{\"k\":\"b\",\"v\":1}}",
+            "{\"error\":\"unsupported_yet\",\"line\":6,\"no\":8}\n",
+        ),
+        (
+            "{\"op\":\"index\",\"index\":\"s\",\"id\":\"2\",\"doc\":{\"k\":\"b\",\"v\":1000000001}}",
+            "{\"error\":\"unsupported_yet\",\"line\":6,\"no\":8}\n",
+        ),
+        (
+            "{\"op\":\"index\",\"index\":\"s\",\"id\":\"2\",\"doc\":{\"k\":\"b\",\"v\":1000000000}}",
+            "{\"line\":6,\"no\":9,\"result\":\"created\",\"seq\":1,\"shard\":0}\n",
+        ),
+        (
+            "{\"op\":\"start\",\"id\":\"t\"}",
+            "{\"error\":\"unsupported_yet\",\"line\":6,\"no\":8}\n",
+        ),
+        (
+            "{\"op\":\"settle\"}",
+            "{\"line\":6,\"no\":8,\"result\":\"settled\"}\n",
+        ),
+        (
+            "{\"op\":\"settle\",\"at\":1}",
+            "{\"error\":\"unsupported_yet\",\"line\":6,\"no\":8}\n",
+        ),
+    ];
+    for (line, reply) in rows {
+        let mut script = String::from_str(rt.alloc(), PIVOT)?;
+        script.push_str(line)?;
+        let mut src = MemSource::new(rt.alloc(), script.as_bytes(), &[])?;
+        let mut out = MemSink::new(rt.alloc(), &[], &[])?;
+        let (end, _) = run(rt.alloc(), &mut src, &mut out)?;
+        assert_eq!(rt; end, End::new(0, 0));
+        assert!(rt; out.bytes().ends_with(reply.as_bytes()));
+    }
     Ok(())
 }
 

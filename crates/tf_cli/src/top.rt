@@ -11,7 +11,6 @@ use crate::words::file_word;
 use std::alloc::Global;
 use tf_disk::Disk;
 use tf_io::{ReadError, Sink, Source, read_lines, write_out};
-use tf_model::List;
 
 const MAX_SCRIPT: u64 = 268_435_456;
 
@@ -41,7 +40,8 @@ pub fn run_top<S: Source, K: Sink, D: Disk>(
     // It answers one of these statuses.
     ensures status { IsRunStatus result.0.status }
 
-    // Status 0: the source was read to its end, and the sink gained the output of its lines.
+    // Status 0: the source was read to its end, and the sink gained the output of its lines. In the history that they make,
+    // the rows of a finished transform are the grouping from scratch of the documents that its checkpoint read.
     ensures done { result.0.status ≡ 0 → Runs (S.left src.old) (S.left src.new) (K.written out.old) (K.written out.new) (λ output. output) }
 
     // Status 2 comes exactly where the words are not those of a command, and then nothing was called.
@@ -73,8 +73,7 @@ pub fn run_top<S: Source, K: Sink, D: Disk>(
         Ok(lines) => lines,
         Err(error) => return (end_of_reading(error), disk),
     };
-    let mut history = List::new(alloc);
-    let Ok(text) = run_script(alloc, &lines, &mut history) else {
+    let Ok(text) = run_script(alloc, &lines) else {
         return (End::new(8, 0), disk);
     };
     match write_out(out, text.as_bytes()) {
