@@ -23,3 +23,4 @@ mod Example
 mod Numbers
 pub mod OnceLaw
 pub mod StampedLaw
+pub mod EndsLaw

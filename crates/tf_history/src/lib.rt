@@ -5,7 +5,7 @@
 //! the least changed keys above the position.
 #![tactic(auto)]
 
-ghost use Rattle.tf_history.specs.Histories.{EachPrefixIsGrouped, RightAfterIsRight, MovesAreLegal};
+ghost use Rattle.tf_history.specs.Histories.{EachPrefixIsGrouped, RightAfterIsRight, MovesAreLegal, BatchMovesEnd};
 ghost use Rattle.tf_history.specs.Agreement.{MeaningsAgree};
 ghost use Rattle.tf_history.specs.ConfiguredLaws.{AlignedKeysAppearOnce, StampedSourcesAreNeverLate};
 ghost use Rattle.tf_history.specs.Entries.{EntriesAreGrouped, LivesAreConfigured, LivesAreSteady};
@@ -107,6 +107,12 @@ pub fn right_after_is_right()
 /// What the indexer would make next is legal, and its Page is right.
 pub fn moves_are_legal()
     ensures { MovesAreLegal }
+{}
+
+/// Each move of a batch transform leaves fewer moves, so a settling of it ends.
+#[tactic(auto, using(crate::proofs::EndsLaw::batch_moves_end))]
+pub fn batch_moves_end()
+    ensures { BatchMovesEnd }
 {}
 
 /// The words of a meaning that is made from a configuration are those of the configuration itself: what counts, keys,
