@@ -1,0 +1,12 @@
+mod Examples
+mod Options
+mod Putting
+mod LineParts
+mod FormedLaws
+mod Numerals
+mod Rooms
+mod Texts
+mod Escapes
+mod Words
+mod Lexing
+mod Sizes

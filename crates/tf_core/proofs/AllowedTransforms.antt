@@ -1,0 +1,179 @@
+-- What may be done to a transform.
+use Rattle.std.proofs.Common.{◌≡◌, ℕ, Bool, true, false, ◌&&◌, not, List, [], ◌∷◌, length, map, Option, Some, None, refl, sym, ap, subst, ◌∙◌, arith}
+use Rattle.std.specs.Prelude.{ℤ, ◌||◌, nat_lt, IsSomeAnd, is_none, if◌then◌else◌, option_map}
+use Rattle.std.specs.List.{AllByRecursion, find}
+use Rattle.std.specs.Cmp.Derive.{both_true}
+use Rattle.std.proofs.lemmas.Option.{same_Some}
+use Rattle.tf_model.specs.declared.config.Config.{Config}
+use Rattle.tf_model.specs.declared.doc.Doc.{Doc}
+use Rattle.tf_model.specs.declared.entry.Entry.{Entry}
+use Rattle.tf_model.specs.declared.task.State.{State}
+use Rattle.tf_model.specs.declared.task.State.TheVariants as state
+use Rattle.tf_model.specs.Bounds.{risen}
+use Rattle.tf_history.specs.Catalogue.{SourceIndex, catalogue}
+use Rattle.tf_history.specs.Legality as legality
+use Rattle.tf_history.specs.Legality.{MayBegin, is_started, is_stopped}
+use Rattle.tf_history.specs.LegalEntries.{MayPut}
+use Rattle.tf_history.specs.Lives.{Life, Checkpoint, life, is_same, last_bound}
+use Rattle.tf_history.specs.Transforms.{PutTransform, transforms, transform_of}
+use Rattle.tf_core.specs.declared.transform.Transform.{Transform}
+use Rattle.tf_core.specs.Allowing.{takes_transform, is_over, may_start, may_stop, may_stop_in, may_begin, test_at}
+use Rattle.tf_core.specs.Built.{is_built_config, fits_first, is_empty}
+use Rattle.tf_core.specs.BuiltPast.{IsBuiltPut}
+use Rattle.tf_core.specs.Legal.{reading, read}
+use Rattle.tf_core.specs.Standing.{Stands}
+use Rattle.tf_core.specs.Summary.{IsSummary, put_of}
+use Rattle.tf_core.specs.Table.{Tells, transform_at}
+use Rattle.tf_core.proofs.Allowed.{built, free_is}
+use Rattle.tf_core.proofs.Truths.{both, none_of, no_items, nat_same, same_nat}
+
+-- ---- lives and transforms
+pub no_life : (docs : List Doc) (l : Option Life) → Tells docs None l → l ≡ None
+no_life docs None h = refl
+no_life docs (Some l) h = absurd h
+
+-- what a test says of a transform that is there it says of its life
+pub life_passes : (docs : List Doc) (o : Option Transform) (m : Option Life) (test : Transform → Bool) (P : Life → Type 0) → Tells docs o m
+    → ((t : Transform) (l : Life) → o ≡ Some t → m ≡ Some l → IsSummary docs t l → test t ≡ true → P l) → test_at test o ≡ true → IsSomeAnd m P
+life_passes docs None m test P tells f e = absurd (let z : false ≡ true = e in cc)
+life_passes docs (Some t) None test P tells f e = absurd tells
+life_passes docs (Some t) (Some l) test P tells f e = f t l refl refl tells e
+
+pub passes_life : (docs : List Doc) (o : Option Transform) (m : Option Life) (test : Transform → Bool) (P : Life → Type 0) → Tells docs o m
+    → ((t : Transform) (l : Life) → o ≡ Some t → m ≡ Some l → IsSummary docs t l → P l → test t ≡ true) → IsSomeAnd m P → test_at test o ≡ true
+passes_life docs None None test P tells f p = absurd p
+passes_life docs None (Some l) test P tells f p = absurd tells
+passes_life docs (Some t) None test P tells f p = absurd p
+passes_life docs (Some t) (Some l) test P tells f p = f t l refl refl tells p
+
+-- ---- starting and stopping
+module _ (docs : List Doc) (t : Transform) (l : Life) (s : IsSummary docs t l) where
+  pub batch_is : l.meaning.is_batch ≡ is_none t.config.sync
+  batch_is = ap (λ m. m.is_batch) s.meaning_is
+
+  over_is : is_over t ≡ legality.is_over l
+  over_is = λ i. sym batch_is i && nat_lt 0 (s.finished i)
+
+  pub start_is : may_start t ≡ legality.may_start l
+  start_is = λ i. is_stopped (s.state i) && not (over_is i)
+
+  stop_by : (st : State) → may_stop_in st t ≡ legality.may_stop st l
+  stop_by state.Stopping = λ i. not (s.waits i) || not (nat_lt (s.finished i) (s.begun i))
+  stop_by state.Started = over_is
+  stop_by state.Stopped = refl
+  stop_by state.Indexing = refl
+  stop_by state.Failed = refl
+
+  pub stop_is : may_stop t ≡ legality.may_stop l.state l
+  stop_is = ap (λ st. may_stop_in st t) s.state ∙ stop_by l.state
+
+  -- ---- beginning
+  started_is : (st : State) → is_started st ≡ true → st ≡ state.Started
+  started_is state.Started e = refl
+  started_is state.Stopped e = absurd (let z : false ≡ true = e in cc)
+  started_is state.Indexing e = absurd (let z : false ≡ true = e in cc)
+  started_is state.Stopping e = absurd (let z : false ≡ true = e in cc)
+  started_is state.Failed e = absurd (let z : false ≡ true = e in cc)
+
+  none_begun : (cs : List Checkpoint) → length cs ≡ 0 → cs ≡ []
+  none_begun [] e = refl
+  none_begun (c ∷ cs) e = absurd (omega arith)
+
+  batch_due : (cs : List Checkpoint) (batch other : Bool) → batch ≡ true → (legality.is_empty cs || (not batch && other)) ≡ true → cs ≡ []
+  batch_due [] batch other b e = refl
+  batch_due (c ∷ cs) true other b e = absurd (let z : false ≡ true = e in cc)
+  batch_due (c ∷ cs) false other b e = absurd (let z : false ≡ true = b in cc)
+
+  no_bound : (b : Bool) (bound : Option ℤ) → b ≡ true → (if b then None else bound) ≡ None
+  no_bound true bound e = refl
+  no_bound false bound e = absurd (let z : false ≡ true = e in cc)
+
+  none_is : {X : Type 0} (o : Option X) → o ≡ None → is_none o ≡ true
+  none_is o e = ap is_none e
+
+  module _ (all : List Doc) (n : ℕ) (bound : Option ℤ) (moment : ℤ) (batch : is_none t.config.sync ≡ true) where
+    is_batch : l.meaning.is_batch ≡ true
+    is_batch = batch_is ∙ batch
+
+    pub begin_may : may_begin t n bound ≡ true → MayBegin l all n bound moment
+    begin_may e =
+        let a = both _ _ e in
+        let b = both _ _ a.1 in
+        let c = both _ _ b.1 in
+        let d = both _ _ c.1 in
+        let begun : t.begun ≡ 0 = same_nat _ _ b.0 in
+        let finished : t.finished ≡ 0 = same_nat _ _ c.0 in
+        let none : l.checkpoints ≡ [] = none_begun l.checkpoints (sym s.begun ∙ begun) in
+        record {
+          started = sym s.state ∙ started_is t.state a.0;
+          idle = sym s.finished ∙ (finished ∙ (sym begun ∙ s.begun));
+          due = ap (λ cs. legality.is_empty cs || (not l.meaning.is_batch && (legality.has_window l all moment && legality.is_time l.meaning cs l.prompted moment))) none;
+          number = let one : n ≡ 1 = same_nat _ _ d.0 in let zero_done : l.finished ≡ 0 = sym s.finished ∙ finished in omega arith;
+          bound_is = none_of bound d.1 ∙ sym (no_bound l.meaning.is_batch (Some (risen (last_bound l.checkpoints) (l.meaning.aligned moment))) is_batch);
+        }
+
+    pub may_begin_now : MayBegin l all n bound moment → may_begin t n bound ≡ true
+    may_begin_now m =
+        let none : l.checkpoints ≡ [] = batch_due l.checkpoints l.meaning.is_batch (legality.has_window l all moment && legality.is_time l.meaning l.checkpoints l.prompted moment) is_batch m.due in
+        let begun : t.begun ≡ 0 = s.begun ∙ ap length none in
+        let finished : t.finished ≡ 0 = s.finished ∙ (m.idle ∙ ap length none) in
+        let one : n ≡ 1 = let number = m.number in let done = s.finished in omega arith in
+        both_true (ap is_started (s.state ∙ m.started)) (both_true (nat_same _ _ begun) (both_true (nat_same _ _ finished) (both_true (nat_same _ _ one)
+        (none_is bound (m.bound_is ∙ no_bound l.meaning.is_batch (Some (risen (last_bound l.checkpoints) (l.meaning.aligned moment))) is_batch)))))
+
+-- ---- putting
+module _ (past : List Entry) (indices : List SourceIndex) (docs : List Doc) (ts : List Transform) (s : Stands past indices docs ts) where
+  pub transform_may : (id : List ℕ) (config : Config) → takes_transform indices ts id config ≡ true → MayPut reading past id config × (life id (read past) ≡ None) × (is_empty (transforms past) ≡ true)
+  unfolding reading
+  transform_may id config e =
+      let a = both _ _ e in
+      let b = both _ _ a.1 in
+      let c = both _ _ b.1 in
+      let d = both _ _ c.1 in
+      let empty : ts ≡ [] = no_items ts d.1 in
+      let none : transforms past ≡ [] = s.transforms_are ∙ ap (map put_of) empty in (
+        record {
+          well_formed = a.0;
+          few = let zero_puts : length (transforms past) ≡ 0 = ap length none in omega arith;
+          checked = both_true b.0 (ap (fits_first config) s.indices_are ∙ c.0);
+          dest_free = free_is past indices docs ts s config.dest ∙ d.0;
+        },
+        no_life docs (life id (read past)) (subst (λ us. Tells docs (transform_at id us) (life id (read past))) empty (s.lives id)),
+        ap is_empty none,
+      )
+
+  no_puts : (ts : List Transform) → is_empty (map put_of ts) ≡ true → is_empty ts ≡ true
+  no_puts [] e = refl
+  no_puts (t ∷ ts) e = e
+
+  pub may_transform : (id : List ℕ) (config : Config) → MayPut reading past id config → is_empty (transforms past) ≡ true → takes_transform indices ts id config ≡ true
+  unfolding reading
+  may_transform id config m first =
+      let checked = both (is_built_config config) (fits_first config (catalogue past)) m.checked in
+      both_true m.well_formed (both_true checked.0 (both_true (ap (fits_first config) (sym s.indices_are) ∙ checked.1) (both_true (sym (free_is past indices docs ts s config.dest) ∙ m.dest_free)
+      (no_puts ts (ap is_empty (sym s.transforms_are) ∙ first)))))
+
+  -- ---- the transform that is there
+  found_put : (id : List ℕ) (ts : List Transform) → find (λ (p : PutTransform). is_same id p.id) (map put_of ts) ≡ option_map put_of (transform_at id ts)
+  found_put id [] = refl
+  found_put id (t ∷ ts) = by (is_same id t.id) (found_put id ts)
+    where
+      by : (b : Bool) → find (λ (p : PutTransform). is_same id p.id) (map put_of ts) ≡ option_map put_of (transform_at id ts)
+          → (if b then Some (put_of t) else find (λ (p : PutTransform). is_same id p.id) (map put_of ts)) ≡ option_map put_of (if b then Some t else transform_at id ts)
+      by true e = refl
+      by false e = e
+
+  pub put_is : (id : List ℕ) → transform_of id past ≡ option_map put_of (transform_at id ts)
+  put_is id = ap (find (λ (p : PutTransform). is_same id p.id)) s.transforms_are ∙ found_put id ts
+
+  all_found : (P : PutTransform → Type 0) (id : List ℕ) (t : Transform) (ts : List Transform) → AllByRecursion P (map put_of ts) → transform_at id ts ≡ Some t → P (put_of t)
+  all_found P id t [] all e = absurd (let z : ◌≡◌ {A = Option Transform} None (Some t) = e in cc)
+  all_found P id t (u ∷ ts) all e = by (is_same id u.id) refl e (λ f. all_found P id t ts all.1 f)
+    where
+      by : (b : Bool) → is_same id u.id ≡ b → (if b then Some u else transform_at id ts) ≡ Some t → (transform_at id ts ≡ Some t → P (put_of t)) → P (put_of t)
+      by true same f rest = subst (λ v. P (put_of v)) (same_Some u t f) all.0
+      by false same f rest = rest f
+
+  -- a transform that is there is a batch pivot over the one index
+  pub form_is : (id : List ℕ) (t : Transform) → transform_at id ts ≡ Some t → IsBuiltPut indices (put_of t)
+  form_is id t e = all_found (IsBuiltPut indices) id t ts (built past indices docs ts s).each_put e

@@ -1,0 +1,7 @@
+use Rattle.std.proofs.Common.{◌≡◌, ◌++◌, drop}
+use Rattle.tf_history.specs.Catalogue.{source_numbers}
+use Rattle.tf_core.specs.Chain.{all_added}
+use Rattle.tf_core.proofs.making.numbers.Given as goal
+
+abbrev pub invariant-loop-name : goal.invariant-loop-name
+invariant-loop-name l = l.numbers ++ source_numbers (l.indices ++ all_added l.steps) (drop l.name-index l.names) ≡ source_numbers (l.indices ++ all_added l.steps) l.names

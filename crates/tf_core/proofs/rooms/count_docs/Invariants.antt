@@ -1,0 +1,9 @@
+use Rattle.std.proofs.Common.{◌≡◌, ◌+◌, ◌≤◌, drop}
+use Rattle.tf_core.specs.Chain.{doc_count}
+use Rattle.tf_core.proofs.rooms.count_docs.Given as goal
+
+abbrev pub invariant-loop-prepared : goal.invariant-loop-prepared
+invariant-loop-prepared l = record {
+  count : l.count + doc_count (drop l.prepared-index l.steps) ≡ doc_count l.steps;
+  low : l.count ≤ l.prepared-index;
+}

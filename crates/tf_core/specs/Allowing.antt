@@ -1,0 +1,179 @@
+-- Whether an entry is taken, by what a core keeps.
+use Rattle.std.specs.Prelude.{ℕ, ℤ, pos, negsuc, ◌+◌, ◌^◌, int_le, nat_le, nat_lt, nat_eq, Bool, true, false, not, ◌&&◌, ◌||◌, List, [], ◌∷◌, length, slice_get, take, Option, Some, None, is_none}
+use Rattle.std.specs.List.{list_all, list_any}
+use Rattle.std.specs.Str.{bytes_eq}
+use Rattle.tf_model.specs.declared.config.Agg.{Agg}
+use Rattle.tf_model.specs.declared.config.Config.{Config}
+use Rattle.tf_model.specs.declared.config.Group.{Group}
+use Rattle.tf_model.specs.declared.config.Shape.{Shape}
+use Rattle.tf_model.specs.declared.config.Shape.TheVariants as shape
+use Rattle.tf_model.specs.declared.doc.Doc.{Doc}
+use Rattle.tf_model.specs.declared.entry.Kind.{Kind}
+use Rattle.tf_model.specs.declared.entry.Kind.TheVariants as kind
+use Rattle.tf_model.specs.declared.entry.Row.{Row}
+use Rattle.tf_model.specs.declared.entry.Row.TheVariants as row
+use Rattle.tf_model.specs.declared.query.FieldType.{FieldType}
+use Rattle.tf_model.specs.declared.task.State.{State}
+use Rattle.tf_model.specs.declared.task.State.TheVariants as state
+use Rattle.tf_model.specs.declared.tree.Tree.{Tree}
+use Rattle.tf_model.specs.declared.value.Key.{Key}
+use Rattle.tf_model.specs.declared.value.Value.{Value}
+use Rattle.tf_model.specs.declared.value.Value.TheVariants as value
+use Rattle.tf_model.specs.Changed.{is_after, changed_above}
+use Rattle.tf_model.specs.Conditions.{greatest_date}
+use Rattle.tf_model.specs.Keys.{least_date}
+use Rattle.tf_model.specs.Names.{is_index_name, is_transform_id, is_field_path}
+use Rattle.tf_history.specs.Catalogue.{SourceIndex}
+use Rattle.tf_history.specs.Legality.{is_stopped, is_started, is_active}
+use Rattle.tf_history.specs.LegalEntries.{has_date, has_id}
+use Rattle.tf_history.specs.Meaning.{row_key}
+use Rattle.tf_core.specs.declared.transform.Transform.{Transform}
+use Rattle.tf_core.specs.Built.{is_built_index, is_built_config, fits_first, is_empty}
+use Rattle.tf_core.specs.Table.{transform_at}
+use Rattle.tf_core.specs.Values.{takes}
+
+-- a moment in range that is not before the last, and an actor
+abbrev pub is_timely : ℤ → ℤ → ℕ → Bool
+is_timely last_ms at_ms actor = int_le (pos 0) at_ms && (int_le at_ms greatest_date && (int_le last_ms at_ms && nat_le actor 15))
+
+-- ---- indices
+-- whether a name is in use by an index
+abbrev pub is_index : List SourceIndex → List ℕ → Bool
+is_index indices name = list_any (λ (s : SourceIndex). bytes_eq name s.name) indices
+
+-- whether a name is in use by a destination
+abbrev pub is_dest : List Transform → List ℕ → Bool
+is_dest ts name = list_any (λ (t : Transform). bytes_eq name t.config.dest) ts
+
+abbrev pub is_free_name : List SourceIndex → List Transform → List ℕ → Bool
+is_free_name indices ts name = not (is_index indices name) && not (is_dest ts name)
+
+-- a stamp is a date field of the mapping
+abbrev pub has_stamp : SourceIndex → Option (List ℕ) → Bool
+has_stamp s None = true
+has_stamp s (Some field) = has_date s.mapping field
+
+abbrev pub is_field : List ℕ × FieldType → Bool
+is_field f = is_field_path f.0
+
+abbrev pub takes_index : List SourceIndex → List Transform → SourceIndex → Bool
+takes_index indices ts s =
+    is_index_name s.name
+    && (is_free_name indices ts s.name
+    && (nat_le (length s.mapping.fields) 64
+    && (list_all (λ f. is_field f) s.mapping.fields
+    && (not s.quick && is_built_index indices s.shards s.mapping s.stamp))))
+
+-- ---- documents
+-- whether an index takes a tree, false where it is not there
+abbrev pub takes_tree : Option SourceIndex → Tree → Bool
+takes_tree None tree = false
+takes_tree (Some s) tree = takes s.mapping tree
+
+-- whether a document has an id in an index
+abbrev pub is_used : ℕ → List ℕ → List Doc → Bool
+is_used index id docs = list_any (has_id index id) docs
+
+abbrev pub takes_document : List SourceIndex → List Doc → ℕ → ℕ → ℕ → List ℕ → Tree → Bool
+takes_document indices docs index shard seq id tree =
+    nat_eq shard 0
+    && (nat_eq seq (length docs)
+    && (nat_lt seq (2 ^ 31)
+    && (nat_le 1 (length id)
+    && (nat_le (length id) 512
+    && (not (is_used index id docs) && takes_tree (slice_get indices index) tree)))))
+
+-- ---- transforms
+abbrev pub takes_transform : List SourceIndex → List Transform → List ℕ → Config → Bool
+takes_transform indices ts id config =
+    is_transform_id id && (is_built_config config && (fits_first config indices && (is_free_name indices ts config.dest && is_empty ts)))
+
+-- whether its checkpoint is finished and it makes no other
+abbrev pub is_over : Transform → Bool
+is_over t = is_none t.config.sync && nat_lt 0 t.finished
+
+abbrev pub may_start : Transform → Bool
+may_start t = is_stopped t.state && not (is_over t)
+
+-- whether checkpoint n is running
+abbrev pub is_running : Transform → ℕ → Bool
+is_running t n = nat_eq n (t.finished + 1) && nat_eq n t.begun
+
+abbrev pub may_stop_in : State → Transform → Bool
+may_stop_in state.Stopping t = not t.waits || not (nat_lt t.finished t.begun)
+may_stop_in state.Started t = is_over t
+may_stop_in _ t = false
+
+abbrev pub may_stop : Transform → Bool
+may_stop t = may_stop_in t.state t
+
+-- the one checkpoint of a batch transform
+abbrev pub may_begin : Transform → ℕ → Option ℤ → Bool
+may_begin t n bound = is_started t.state && (nat_eq t.begun 0 && (nat_eq t.finished 0 && (nat_eq n 1 && is_none bound)))
+
+-- ---- rows
+-- each row is above the one before, the first above a position
+abbrev pub ascends : Option Key → List Row → Bool
+ascends position [] = true
+ascends position (r ∷ rows) = is_after position (row_key r) && ascends (Some (row_key r)) rows
+
+abbrev pub is_date_in_range : ℤ → Bool
+is_date_in_range ms = int_le least_date ms && int_le ms greatest_date
+
+-- a part of a key: a date is in range
+abbrev pub is_part : Value → Bool
+is_part (value.Date ms) = is_date_in_range ms
+is_part _ = true
+
+-- a value of a pivot's row: nothing, a truth value, a date in range or a number in i64
+abbrev pub is_row_value : Value → Bool
+is_row_value value.Null = true
+is_row_value (value.Bool b) = true
+is_row_value (value.Date ms) = is_date_in_range ms
+is_row_value (value.Int n) = int_le (negsuc 9223372036854775807) n && int_le n (pos 9223372036854775807)
+is_row_value (value.Str text) = false
+
+abbrev pub is_pivot_row : List Group → List Agg → List Value → List Value → Bool
+is_pivot_row groups aggs parts values =
+    nat_eq (length parts) (length groups) && (list_all is_part parts && (nat_eq (length values) (length aggs) && list_all is_row_value values))
+
+-- a row of a pivot
+abbrev pub is_row_of : Shape → Row → Bool
+is_row_of (shape.Pivot groups aggs) (row.Pivot k values) = is_pivot_row groups aggs k.parts values
+is_row_of _ _ = false
+
+abbrev pub may_page : Transform → ℕ → List Row → Bool
+may_page t n rows =
+    is_running t n
+    && (is_active t.state
+    && (nat_lt 0 (length rows) && (nat_le (length rows) t.config.page_size && (ascends t.position rows && list_all (is_row_of t.config.shape) rows))))
+
+abbrev pub may_finish : Transform → ℕ → Bool
+may_finish t n = is_running t n && is_active t.state
+
+-- whether no changed key of a first checkpoint is above the position
+abbrev pub has_none_left : Transform → List Doc → Bool
+has_none_left t docs = is_empty (changed_above t.config None t.bound t.position (take t.read docs))
+
+-- ---- entries
+-- what a test says of a transform, false where it is not there
+abbrev pub test_at : (Transform → Bool) → Option Transform → Bool
+test_at test None = false
+test_at test (Some t) = test t
+
+-- whether checkpoint n of a transform may be finished
+abbrev pub may_be_finished : List Doc → List Transform → List ℕ → ℕ → Bool
+may_be_finished docs ts id n = test_at (λ t. may_finish t n && has_none_left t docs) (transform_at id ts)
+
+-- whether what an entry does may be done now
+abbrev pub may_do : List SourceIndex → List Doc → List Transform → Kind → Bool
+may_do indices docs ts (kind.Index name shards mapping stamp quick) =
+    takes_index indices ts (record { name = name; shards = shards; mapping = mapping; stamp = stamp; quick = quick })
+may_do indices docs ts (kind.Write index shard seq id tree) = takes_document indices docs index shard seq id tree
+may_do indices docs ts (kind.Put id config) = takes_transform indices ts id config
+may_do indices docs ts (kind.Start id) = test_at may_start (transform_at id ts)
+may_do indices docs ts (kind.Stopped id) = test_at may_stop (transform_at id ts)
+may_do indices docs ts (kind.Begin id n bound) = test_at (λ t. may_begin t n bound) (transform_at id ts)
+may_do indices docs ts (kind.Page id n rows) = test_at (λ t. may_page t n rows) (transform_at id ts)
+may_do indices docs ts (kind.Finish id n) = may_be_finished docs ts id n
+may_do indices docs ts _ = false

@@ -1,0 +1,48 @@
+-- Which entries a core takes after a history: those that are legal, and of the forms that are built.
+use Rattle.std.specs.Prelude.{◌≡◌, ⊤, true, ◌&&◌, List, [], ◌∷◌, reverse}
+use Rattle.tf_model.specs.declared.entry.Entry.{Entry}
+use Rattle.tf_model.specs.Names.{is_transform_id, is_index_name, is_field_path}
+use Rattle.tf_history.specs.Events.{Event}
+use Rattle.tf_history.specs.LegalEntries.{Reading, IsLegalEntry}
+use Rattle.tf_history.specs.Reading.{events}
+use Rattle.tf_core.specs.Built.{is_built, is_built_config, fits_first}
+use Rattle.tf_core.specs.Values.{values_of, takes}
+
+-- what is said of names, ids, configurations and documents, for the forms that are built
+unfoldable pub reading : Reading
+reading = record {
+  values_of = values_of;
+  is_id = is_transform_id;
+  is_name = is_index_name;
+  is_field = is_field_path;
+  shard_of = λ id shards. 0;
+  is_config = λ indices config. is_built_config config && fits_first config indices;
+  is_read = λ index moment tree. takes index.mapping tree;
+}
+
+-- a past, newest entry first, as the laws of checkpoints read it
+abbrev pub read : List Entry → List Event
+read past = events values_of past
+
+-- an entry that is taken after a past
+pub record IsTaken (past : List Entry) (e : Entry) : Type 0 where
+  pub legal : IsLegalEntry reading past e
+  pub built : is_built past e.kind ≡ true
+
+-- a past in which each entry was taken after those before it
+abbrev pub IsTakenPast : List Entry → Type 0
+IsTakenPast [] = ⊤
+IsTakenPast (e ∷ past) = IsTakenPast past × IsTaken past e
+
+-- entries that are taken one after the other after a past; the first is the oldest
+abbrev pub AreTaken : List Entry → List Entry → Type 0
+AreTaken past [] = ⊤
+AreTaken past (e ∷ entries) = IsTaken past e × AreTaken (e ∷ past) entries
+
+-- a history, oldest entry first, whose entries were taken one after the other
+abbrev pub IsTakenHistory : List Entry → Type 0
+IsTakenHistory history = IsTakenPast (reverse history)
+
+-- entries that are taken one after the other after a history
+abbrev pub AreTakenAfter : List Entry → List Entry → Type 0
+AreTakenAfter history entries = AreTaken (reverse history) entries

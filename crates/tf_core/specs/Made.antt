@@ -1,0 +1,71 @@
+-- What is made for an entry.
+use Rattle.std.specs.Prelude.{◌≡◌, ℕ, ℤ, ◌+◌, ◌<◌, ◌≤◌, ⊤, List, [], length, vec_len, vec_capacity, Some, None}
+use Rattle.std.specs.Arc.{arc_value}
+use Rattle.tf_model.specs.declared.doc.Doc.{Doc}
+use Rattle.tf_model.specs.declared.config.Config.{Config}
+use Rattle.tf_model.specs.declared.entry.Entry.{Entry}
+use Rattle.tf_model.specs.declared.entry.Kind.{Kind}
+use Rattle.tf_model.specs.declared.entry.Kind.TheVariants as kind
+use Rattle.tf_model.specs.declared.entry.Row.{Row}
+use Rattle.tf_history.specs.Catalogue.{SourceIndex, source_numbers}
+use Rattle.tf_history.specs.Configured.{meaning}
+use Rattle.tf_history.specs.Lives.{fresh, last_key}
+use Rattle.tf_core.specs.declared.kept.Kept.{Kept}
+use Rattle.tf_core.specs.declared.kept.Kept.TheVariants as kept
+use Rattle.tf_core.specs.declared.ready.Change.{Change}
+use Rattle.tf_core.specs.declared.ready.Change.TheVariants as change
+use Rattle.tf_core.specs.declared.ready.Prepared.{Prepared}
+use Rattle.tf_core.specs.declared.ready.Step.{Step}
+use Rattle.tf_core.specs.declared.ready.Step.TheVariants as step
+use Rattle.tf_core.specs.declared.transform.Transform.{Transform}
+use Rattle.tf_core.specs.Chain.{PutHas, rows_in}
+use Rattle.tf_core.specs.Kept.{entry_of}
+use Rattle.tf_core.specs.Steps.{IsStep}
+use Rattle.tf_core.specs.Summary.{IsSummary}
+
+-- what is asked of an entry that is prepared: no retention policy, and a Page with a row
+abbrev pub IsFit : Kind → Type 0
+IsFit (kind.Put id config) = config.retention ≡ None
+IsFit (kind.Page id n rows) = 0 < length rows
+IsFit _ = ⊤
+
+-- no Write
+abbrev pub IsOther : Kind → Type 0
+IsOther (kind.Write index shard seq id tree) = ⊥
+IsOther _ = ⊤
+
+-- how many rows an entry can add
+abbrev pub rows_of : Kind → ℕ
+rows_of (kind.Page id n rows) = length rows
+rows_of _ = 0
+
+-- a transform that was just put, with room for so many rows
+pub record IsOpened (indices : List SourceIndex) (more : ℕ) (id : List ℕ) (config : Config) (t : Transform) : Type 0 where
+  pub named : t.id ≡ id
+  pub configured : t.config ≡ config
+  pub sources : t.sources ≡ source_numbers indices config.sources
+  pub summary : IsSummary [] t (fresh (meaning t.sources t.config))
+  pub room : vec_len t.rows + more ≤ vec_capacity t.rows
+
+abbrev pub IsPageOf : ℕ → List Row → Change → Type 0
+IsPageOf n rows (change.Page m copies position) = (m ≡ n) × (copies.items ≡ rows) × (last_key copies.items ≡ Some position)
+IsPageOf n rows _ = ⊥
+
+-- a step for an entry where these indices are there; a transform that it puts has room for so many rows
+pub record IsStepFor (indices : List SourceIndex) (room : ℕ) (e : Entry) (s : Step) : Type 0 where
+  pub step : IsStep indices e s
+  pub has : PutHas room s
+  pub rows : rows_in s ≡ rows_of e.kind
+
+-- a document kept as a Write, and shared with the step
+abbrev pub IsWrittenBy : ℤ → ℕ → Doc → Kept → Step → Type 0
+IsWrittenBy at_ms actor d (kept.Write moment who doc) (step.Write other) = (moment ≡ at_ms) × (who ≡ actor) × (arc_value doc ≡ d) × (arc_value other ≡ d)
+IsWrittenBy at_ms actor d _ _ = ⊥
+
+abbrev pub IsWritten : ℤ → ℕ → Doc → Prepared → Type 0
+IsWritten at_ms actor d p = IsWrittenBy at_ms actor d p.kept p.step
+
+-- an entry that is prepared
+pub record IsPreparedFor (indices : List SourceIndex) (room : ℕ) (e : Entry) (p : Prepared) : Type 0 where
+  pub entry : entry_of p.kept ≡ e
+  pub step : IsStepFor indices room e p.step

@@ -1,0 +1,64 @@
+-- The entries that the indexer's moves make.
+use Rattle.std.specs.Prelude.{◌≡◌, ℕ, ℤ, pos, map, take, nat_lt, nat_eq, ◌&&◌, List, [], ◌∷◌, Option, Some, None, if◌then◌else◌}
+use Rattle.std.specs.Option.{option_map, option_and_then}
+use Rattle.tf_model.specs.declared.config.Config.{Config}
+use Rattle.tf_model.specs.declared.doc.Doc.{Doc}
+use Rattle.tf_model.specs.declared.entry.Entry.{Entry}
+use Rattle.tf_model.specs.declared.entry.Row.{Row}
+use Rattle.tf_model.specs.declared.value.Key.{Key}
+use Rattle.tf_model.specs.Changed.{changed_above}
+use Rattle.tf_model.specs.Counted.{counted}
+use Rattle.tf_model.specs.Rows.{pivot_row}
+use Rattle.tf_model.specs.declared.entry.Kind.{Kind}
+use Rattle.tf_model.specs.declared.entry.Kind.TheVariants as kind
+use Rattle.tf_history.specs.Events.{Deed}
+use Rattle.tf_history.specs.Events.Deed.{Stopped, Fail, Begin, Page, Finish}
+use Rattle.tf_history.specs.Legality.{next_move, is_started, is_active}
+use Rattle.tf_core.specs.declared.moving.What.{What}
+use Rattle.tf_core.specs.declared.moving.What.TheVariants as what
+use Rattle.tf_core.specs.declared.transform.Transform.{Transform}
+use Rattle.tf_core.specs.Allowing.{may_stop}
+use Rattle.tf_model.specs.Conditions.{IsSpan}
+use Rattle.tf_history.specs.Legality.{IsNotBefore}
+use Rattle.tf_core.specs.Legal.{IsTaken, read}
+
+-- the moment of the newest entry of a past, 0 where there is none
+abbrev pub last_ms_in : List Entry → ℤ
+last_ms_in [] = pos 0
+last_ms_in (e ∷ past) = e.at_ms
+
+-- the actor of the indexer where one thread makes the entries
+abbrev pub indexer : ℕ
+indexer = 8
+
+abbrev pub moved : ℤ → Kind → Entry
+moved at_ms kind = record { at_ms = at_ms; actor = indexer; kind = kind }
+
+-- what a deed of the indexer is as an entry's kind
+abbrev pub kind_of : Deed → Option Kind
+kind_of (Begin id n bound) = Some (kind.Begin id n bound)
+kind_of (Page id n rows) = Some (kind.Page id n rows)
+kind_of (Finish id n) = Some (kind.Finish id n)
+kind_of (Fail id n key name value) = Some (kind.Fail id n key name value)
+kind_of (Stopped id) = Some (kind.Stopped id)
+kind_of _ = None
+
+-- the entry of the next move of a transform at a moment, none where it has none
+abbrev pub move : List ℕ → List Entry → ℤ → Option Entry
+move id past at_ms = option_map (moved at_ms) (option_and_then kind_of (next_move id (read past) at_ms))
+
+-- which move comes next, by what is kept of a batch transform
+abbrev pub what_next : Transform → What
+what_next t =
+    if may_stop t then what.Stopped
+    else if is_started t.state && nat_eq t.begun 0 then what.Begin
+    else if nat_lt t.finished t.begun && is_active t.state then what.Page
+    else what.Nothing
+
+-- the rows of the least 500 changed keys above a position, or of all that are left
+abbrev pub IsPage : Config → Option Key → List Doc → List Row → Type 0
+IsPage c position docs rows = map Some rows ≡ map (λ k. pivot_row c k (counted c None docs)) (take 500 (changed_above c None None position docs))
+
+-- an entry of this kind, made by the indexer at any moment that is not before the last, is taken
+abbrev pub IsTakenAtOnce : List Entry → Kind → Type 0
+IsTakenAtOnce past kind = (moment : ℤ) → IsSpan moment → IsNotBefore moment (read past) → IsTaken past (moved moment kind)

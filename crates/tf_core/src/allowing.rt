@@ -1,0 +1,312 @@
+// Whether an entry is taken, kind by kind.
+ghost use Rattle.std.specs.Prelude.{◌≡◌};
+ghost use Rattle.std.specs.List.{list_all};
+ghost use Rattle.std.specs.Option.{option_copied};
+ghost use Rattle.tf_core.specs.Allowing as spec;
+ghost use Rattle.tf_core.specs.Ids.{AreIndexed};
+ghost use Rattle.tf_core.specs.Standing.{shared};
+ghost use Rattle.tf_model.specs.Changed.{is_after as after};
+ghost use Rattle.tf_history.specs.Legality as legality;
+
+use crate::built::{fits_first, is_built_config, is_built_index};
+use crate::ids::Ids;
+use crate::index::Index;
+use crate::lookups::place_in;
+use crate::names::is_free;
+use crate::rows::key;
+use crate::transform::Transform;
+use crate::values::takes;
+use std::alloc::Global;
+use std::cmp::Ordering;
+use std::sync::Arc;
+use tf_model::{
+    Agg, Config, Doc, FieldType, Group, Key, Mapping, Row, Shape, State, Text, Tree, Value,
+    is_field_path, is_index_name, is_transform_id,
+};
+
+const LEAST_DATE: i64 = -62_167_219_200_000;
+
+const GREATEST_DATE: i64 = 253_402_300_799_999;
+
+const MAX_FIELDS: usize = 64;
+
+const MAX_DOCS: u64 = 1 << 31;
+
+const MAX_ID: usize = 512;
+
+const MAX_ACTOR: u8 = 15;
+
+/// Whether a moment is in range and not before the last, and the actor is one.
+pub fn is_timely(last_ms: i64, at_ms: i64, actor: u8) -> bool
+    ensures { result ≡ spec.is_timely last_ms at_ms actor }
+{
+    0 <= at_ms && at_ms <= GREATEST_DATE && last_ms <= at_ms && actor <= MAX_ACTOR
+}
+
+/// Whether an index may be created.
+pub fn takes_index(
+    indices: &[Index],
+    transforms: &[Transform],
+    name: &Text,
+    shards: u32,
+    mapping: &Mapping,
+    stamp: &Option<Text>,
+    quick: bool,
+) -> bool
+    ensures { result ≡ spec.takes_index indices.now transforms.now (record { name = name.now; shards = shards; mapping = mapping.now; stamp = stamp.now; quick = quick }) }
+{
+    is_index_name(name.as_str())
+        && is_free(indices, transforms, name)
+        && mapping.fields.len() <= MAX_FIELDS
+        && are_fields(mapping.fields.as_slice())
+        && !quick
+        && is_built_index(indices, shards, mapping, stamp)
+}
+
+fn are_fields(fields: &[(Text, FieldType)]) -> bool
+    ensures { result ≡ list_all (λ f. spec.is_field f) fields.now }
+{
+    fields.iter().all(|field| is_field(field))
+}
+
+fn is_field(field: &(Text, FieldType)) -> bool
+    ensures { result ≡ spec.is_field field.now }
+{
+    is_field_path(field.0.as_str())
+}
+
+/// Whether a document may be written.
+pub fn takes_document(
+    indices: &[Index],
+    ids: &Ids,
+    docs: &[Arc<Doc, Global>],
+    index: u32,
+    shard: u32,
+    seq: u64,
+    id: &Text,
+    tree: &Tree,
+) -> bool
+    requires { AreIndexed ids.now (shared docs.now) }
+    ensures { result ≡ spec.takes_document indices.now (shared docs.now) index shard seq id.now tree.now }
+{
+    shard == 0
+        && seq == docs.len() as u64
+        && seq < MAX_DOCS
+        && 1 <= id.as_str().len()
+        && id.as_str().len() <= MAX_ID
+        && !is_used(ids, docs, index, id)
+        && takes_tree(indices.get(index as usize), tree)
+}
+
+fn takes_tree(index: Option<&Index>, tree: &Tree) -> bool
+    ensures { result ≡ spec.takes_tree (option_copied index.entry) tree.now }
+{
+    match index {
+        Some(index) => takes(index.mapping(), tree),
+        None => false,
+    }
+}
+
+/// Whether a transform may be put.
+pub fn takes_transform(
+    indices: &[Index],
+    transforms: &[Transform],
+    id: &Text,
+    config: &Config,
+) -> bool
+    ensures { result ≡ spec.takes_transform indices.now transforms.now id.now config.now }
+{
+    is_transform_id(id.as_str())
+        && is_built_config(config)
+        && fits_first(config, indices)
+        && is_free(indices, transforms, &config.dest)
+        && transforms.is_empty()
+}
+
+// Whether its checkpoint is finished and it makes no other.
+fn is_over(transform: &Transform) -> bool
+    ensures { result ≡ spec.is_over transform.now }
+{
+    transform.config.sync.is_none() && 0 < transform.finished
+}
+
+/// Whether a transform may be started.
+pub fn may_start(transform: &Transform) -> bool
+    ensures { result ≡ spec.may_start transform.now }
+{
+    is_stopped(transform.state) && !is_over(transform)
+}
+
+/// Whether a transform may come to its stop.
+pub fn may_stop(transform: &Transform) -> bool
+    ensures { result ≡ spec.may_stop transform.now }
+{
+    match transform.state {
+        State::Stopping => !transform.waits || !(transform.finished < transform.begun),
+        State::Started => is_over(transform),
+        State::Stopped | State::Indexing | State::Failed => false,
+    }
+}
+
+/// Whether checkpoint `n` may begin with this bound.
+pub fn may_begin(transform: &Transform, n: u64, bound: Option<i64>) -> bool
+    ensures { result ≡ spec.may_begin transform.now n bound }
+{
+    is_started(transform.state)
+        && transform.begun == 0
+        && transform.finished == 0
+        && n == 1
+        && bound.is_none()
+}
+
+// Whether checkpoint `n` is running.
+fn is_running(transform: &Transform, n: u64) -> bool
+    ensures { result ≡ spec.is_running transform.now n }
+{
+    0 < n && n - 1 == transform.finished && n == transform.begun
+}
+
+/// Whether a page of these rows may come next in checkpoint `n`.
+pub fn may_page(transform: &Transform, n: u64, rows: &[Row]) -> bool
+    ensures { result ≡ spec.may_page transform.now n rows.now }
+{
+    is_running(transform, n)
+        && is_active(transform.state)
+        && 0 < rows.len()
+        && rows.len() <= transform.config.page_size as usize
+        && ascends(transform.position.as_ref(), rows)
+        && all_rows(&transform.config.shape, rows)
+}
+
+/// Whether checkpoint `n` may be finished, where no changed key is above the position.
+pub fn may_finish(transform: &Transform, n: u64) -> bool
+    ensures { result ≡ spec.may_finish transform.now n }
+{
+    is_running(transform, n) && is_active(transform.state)
+}
+
+fn is_stopped(state: State) -> bool
+    ensures { result ≡ legality.is_stopped state }
+{
+    match state {
+        State::Stopped => true,
+        _ => false,
+    }
+}
+
+pub fn is_started(state: State) -> bool
+    ensures { result ≡ legality.is_started state }
+{
+    match state {
+        State::Started => true,
+        _ => false,
+    }
+}
+
+pub fn is_active(state: State) -> bool
+    ensures { result ≡ legality.is_active state }
+{
+    match state {
+        State::Indexing | State::Stopping => true,
+        State::Stopped | State::Started | State::Failed => false,
+    }
+}
+
+// Whether each row is above the one before, and the first above the position.
+fn ascends(position: Option<&Key>, rows: &[Row]) -> bool
+    ensures { result ≡ spec.ascends (option_copied position.entry) rows.now }
+{
+    let mut last = position;
+    for row in rows {
+        if !is_after(last, key(row)) {
+            return false;
+        }
+        last = Some(key(row));
+    }
+    true
+}
+
+fn is_after(position: Option<&Key>, key: &Key) -> bool
+    ensures { result ≡ after (option_copied position.entry) key.now }
+{
+    match position {
+        Some(position) => position.cmp(key) == Ordering::Less,
+        None => true,
+    }
+}
+
+fn all_rows(shape: &Shape, rows: &[Row]) -> bool
+    ensures { result ≡ list_all (spec.is_row_of shape.now) rows.now }
+{
+    rows.iter().all(|row| is_row_of(shape, row))
+}
+
+fn is_row_of(shape: &Shape, row: &Row) -> bool
+    ensures { result ≡ spec.is_row_of shape.now row.now }
+{
+    match (shape, row) {
+        (Shape::Pivot { groups, aggs }, Row::Pivot { key, values }) => is_pivot_row(
+            groups.as_slice(),
+            aggs.as_slice(),
+            key.parts.as_slice(),
+            values.as_slice(),
+        ),
+        _ => false,
+    }
+}
+
+fn is_pivot_row(groups: &[Group], aggs: &[Agg], parts: &[Value], values: &[Value]) -> bool
+    ensures { result ≡ spec.is_pivot_row groups.now aggs.now parts.now values.now }
+{
+    parts.len() == groups.len()
+        && are_parts(parts)
+        && values.len() == aggs.len()
+        && are_row_values(values)
+}
+
+fn are_parts(parts: &[Value]) -> bool
+    ensures { result ≡ list_all spec.is_part parts.now }
+{
+    parts.iter().all(|part| is_part(part))
+}
+
+fn are_row_values(values: &[Value]) -> bool
+    ensures { result ≡ list_all spec.is_row_value values.now }
+{
+    values.iter().all(|value| is_row_value(value))
+}
+
+fn is_date_in_range(ms: i64) -> bool
+    ensures { result ≡ spec.is_date_in_range ms }
+{
+    LEAST_DATE <= ms && ms <= GREATEST_DATE
+}
+
+fn is_part(part: &Value) -> bool
+    ensures { result ≡ spec.is_part part.now }
+{
+    match part {
+        Value::Date(ms) => is_date_in_range(*ms),
+        _ => true,
+    }
+}
+
+fn is_row_value(value: &Value) -> bool
+    ensures { result ≡ spec.is_row_value value.now }
+{
+    match value {
+        Value::Null | Value::Bool(_) => true,
+        Value::Date(ms) => is_date_in_range(*ms),
+        Value::Int(number) => { i128::from(i64::MIN) <= *number && *number <= i128::from(i64::MAX) }
+        Value::Str(_) => false,
+    }
+}
+
+// Whether a document has this id in an index.
+#[tactic(auto, using(crate::proofs::Used::used_is))]
+fn is_used(ids: &Ids, docs: &[Arc<Doc, Global>], index: u32, id: &Text) -> bool
+    requires { AreIndexed ids.now (shared docs.now) }
+    ensures { result ≡ spec.is_used index id.now (shared docs.now) }
+{
+    place_in(ids, docs, index, id).is_some()
+}

@@ -1,0 +1,38 @@
+//! The state that a history leaves.
+//!
+//! A `Core` stands for a history of entries: the indices, documents and transforms that it keeps are what the history leaves,
+//! and each entry was taken after those before it. `prepare` takes all the memory that further entries need and changes
+//! nothing that contracts see; `apply` then makes the history longer by them, takes no memory and cannot fail.
+#![tactic(auto)]
+
+mod allowing;
+mod applying;
+mod built;
+mod catalogue;
+mod ids;
+mod index;
+mod kept;
+mod late;
+mod lookups;
+mod making;
+mod moving;
+mod names;
+mod paging;
+mod planning;
+mod preparing;
+mod reading;
+mod ready;
+mod rooms;
+mod rows;
+mod state;
+mod stepping;
+mod table;
+mod taking;
+#[cfg(test)]
+mod tests;
+mod transform;
+mod values;
+mod writing;
+
+pub use ready::Ready;
+pub use state::Core;

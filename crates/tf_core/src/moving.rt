@@ -1,0 +1,172 @@
+// The indexer's next move.
+ghost use Rattle.std.specs.Prelude.{◌≡◌, ◌≤ℤ◌, ℤ, IfOk, IfSome, Some, reverse};
+ghost use Rattle.std.specs.Option.{option_and_then, option_map};
+ghost use Rattle.tf_model.specs.Conditions.{IsSpan};
+ghost use Rattle.tf_history.specs.Legality.{next_move};
+ghost use Rattle.tf_core.specs.declared.moving.What.TheVariants as what;
+ghost use Rattle.tf_core.specs.Held.{last_ms_of};
+ghost use Rattle.tf_core.specs.Kept.{history_in, past_in};
+ghost use Rattle.tf_core.specs.Legal.{IsTaken, read};
+ghost use Rattle.tf_core.specs.Moves as spec;
+ghost use Rattle.tf_core.specs.Moves.{IsTakenAtOnce, kind_of, last_ms_in};
+ghost use Rattle.std.specs.List.{AllByRecursion};
+ghost use Rattle.tf_history.specs.Lives.{documents};
+ghost use Rattle.tf_core.specs.Standing.{Stands, shared};
+ghost use Rattle.tf_core.specs.Texts.{HasShortRows, HasTexts, IsShort};
+ghost use Rattle.tf_core.specs.Table.{transform_at};
+
+use crate::allowing::{is_active, is_started, may_stop};
+use crate::index::Index;
+use crate::kept::Kept;
+use crate::paging::next_rows;
+use crate::state::Core;
+use crate::table::find;
+use crate::taking::last_moment;
+use crate::transform::Transform;
+use std::alloc::Global;
+use std::sync::Arc;
+use tf_model::{Doc, Entry, Kind, OutOfMemory, Text};
+
+const INDEXER: u8 = 8;
+
+/// Which move comes next.
+#[derive(Clone, Copy, PartialEq, Eq, Debug)]
+pub enum What {
+    /// The transform comes to its stop.
+    Stopped,
+    /// A checkpoint begins.
+    Begin,
+    /// The running checkpoint gets a page, or is finished.
+    Page,
+    /// There is none.
+    Nothing,
+}
+
+/// Which move of a batch transform comes next.
+pub fn what_next(transform: &Transform) -> What
+    ensures { result ≡ spec.what_next transform.now }
+{
+    if may_stop(transform) {
+        What::Stopped
+    } else if is_started(transform.state) && transform.begun == 0 {
+        What::Begin
+    } else if transform.finished < transform.begun && is_active(transform.state) {
+        What::Page
+    } else {
+        What::Nothing
+    }
+}
+
+/// What the next move of a transform does, none where it has none.
+pub fn next_kind(
+    alloc: Global,
+    entries: &[Kept],
+    indices: &[Index],
+    docs: &[Arc<Doc, Global>],
+    transforms: &[Transform],
+    id: &Text,
+    found: &Transform,
+) -> Result<Option<Kind>, OutOfMemory>
+    requires stands { Stands (past_in entries.now) indices.now (shared docs.now) transforms.now }
+    requires found { transform_at id.now transforms.now ≡ Some found.now }
+    ensures next { IfOk result (λ kind. (moment : ℤ) → kind ≡ option_and_then kind_of (next_move id.now (read (past_in entries.now)) moment)) }
+    ensures taken { IfOk result (λ kind. IfSome kind (IsTakenAtOnce (past_in entries.now))) }
+    ensures short { AllByRecursion (HasTexts IsShort) (shared docs.now) → IfOk result (λ kind. IfSome kind HasShortRows) }
+{
+    match what_next(found) {
+        What::Stopped => Ok(Some(Kind::Stopped {
+            id: id.copy(alloc)?,
+        })),
+        What::Begin => Ok(Some(Kind::Begin {
+            id: id.copy(alloc)?,
+            n: 1,
+            bound: None,
+        })),
+        What::Page => {
+            let kind = page_kind(alloc, entries, indices, docs, transforms, id, found)?;
+            Ok(Some(kind))
+        }
+        What::Nothing => Ok(None),
+    }
+}
+
+// The next page of the running checkpoint, or its finish where no changed key is above the position.
+fn page_kind(
+    alloc: Global,
+    entries: &[Kept],
+    indices: &[Index],
+    docs: &[Arc<Doc, Global>],
+    transforms: &[Transform],
+    id: &Text,
+    found: &Transform,
+) -> Result<Kind, OutOfMemory>
+    requires stands { Stands (past_in entries.now) indices.now (shared docs.now) transforms.now }
+    requires found { transform_at id.now transforms.now ≡ Some found.now }
+    requires page { spec.what_next found.now ≡ what.Page }
+    ensures next { IfOk result (λ kind. (moment : ℤ) → Some kind ≡ option_and_then kind_of (next_move id.now (read (past_in entries.now)) moment)) }
+    ensures taken { IfOk result (IsTakenAtOnce (past_in entries.now)) }
+    ensures short { AllByRecursion (HasTexts IsShort) (shared docs.now) → IfOk result HasShortRows }
+{
+    let rows = next_rows(alloc, found, docs)?;
+    let id = id.copy(alloc)?;
+    if rows.is_empty() {
+        Ok(Kind::Finish { id, n: found.begun })
+    } else {
+        Ok(Kind::Page {
+            id,
+            n: found.begun,
+            rows,
+        })
+    }
+}
+
+impl Core {
+    /// The entry of the next move of a transform at the moment of the last entry, none where it has none. The entry is
+    /// taken next. Where the texts of documents have lengths that fit four bytes, so have those of a page's rows.
+    pub fn next_entry(&self, id: &Text) -> Result<Option<Entry>, OutOfMemory>
+        ensures next { IfOk result (λ entry. entry ≡ spec.move id.now (reverse self.now.history) (last_ms_in (reverse self.now.history))) }
+        ensures taken { IfOk result (λ entry. IfSome entry (IsTaken (reverse self.now.history))) }
+        ensures short { AllByRecursion (HasTexts IsShort) (documents (read (reverse self.now.history))) → IfOk result (λ entry. IfSome entry (λ e. HasShortRows e.kind)) }
+    {
+        let entries = self.entries.as_slice();
+        let indices = self.indices.as_slice();
+        let docs = self.docs.as_slice();
+        let transforms = self.transforms.as_slice();
+        match find(transforms, id) {
+            None => Ok(None),
+            Some(found) => next_of(self.alloc, entries, indices, docs, transforms, id, found),
+        }
+    }
+}
+
+// The entry of the next move of a transform that is there.
+fn next_of(
+    alloc: Global,
+    entries: &[Kept],
+    indices: &[Index],
+    docs: &[Arc<Doc, Global>],
+    transforms: &[Transform],
+    id: &Text,
+    found: &Transform,
+) -> Result<Option<Entry>, OutOfMemory>
+    requires stands { Stands (past_in entries.now) indices.now (shared docs.now) transforms.now }
+    requires found { transform_at id.now transforms.now ≡ Some found.now }
+    ensures next { IfOk result (λ entry. entry ≡ spec.move id.now (past_in entries.now) (last_ms_in (past_in entries.now))) }
+    ensures taken { IfOk result (λ entry. IfSome entry (IsTaken (past_in entries.now))) }
+    ensures short { AllByRecursion (HasTexts IsShort) (shared docs.now) → IfOk result (λ entry. IfSome entry (λ e. HasShortRows e.kind)) }
+{
+    let kind = next_kind(alloc, entries, indices, docs, transforms, id, found)?;
+    Ok(entry_of(entries, kind))
+}
+
+// An entry of the indexer.
+fn entry_of(entries: &[Kept], kind: Option<Kind>) -> Option<Entry>
+    ensures { result ≡ option_map (spec.moved (last_ms_of (history_in entries.now))) kind }
+{
+    let kind = kind?;
+    Some(Entry {
+        at_ms: last_moment(entries),
+        actor: INDEXER,
+        kind,
+    })
+}

@@ -1,0 +1,168 @@
+// What is kept of a transform's life.
+ghost use Rattle.std.specs.Prelude.{◌≡◌, ◌+◌, ◌<◌, ◌≤◌, ◌^◌, length, vec_len, vec_capacity, nat_lt};
+ghost use Rattle.tf_core.specs.Places.{AreAscending};
+ghost use Rattle.tf_core.specs.Steps.{Changed, started};
+ghost use Rattle.tf_core.specs.declared.ready.Change.TheVariants as change;
+ghost use Rattle.tf_history.specs.Lives as lives;
+
+use crate::rows::put_rows;
+use tf_model::{Config, Key, List, Row, State, SumRange, Text};
+
+/// What is kept of a transform's life.
+#[derive(Drop)]
+pub struct Transform {
+    pub id: Text,
+    pub config: Config,
+    /// The numbers of its sources, in the order of the configuration.
+    pub sources: List<u64>,
+    pub state: State,
+    /// Whether the last request to stop waits for the checkpoint.
+    pub waits: bool,
+    /// Whether a Start or a Schedule stands after the last Begin.
+    pub prompted: bool,
+    /// How many checkpoints have begun.
+    pub begun: u64,
+    /// The bound of the newest checkpoint.
+    pub bound: Option<i64>,
+    /// The moment of the newest checkpoint, 0 where there is none.
+    pub begun_ms: i64,
+    /// How many of all documents the newest checkpoint sees: those written before it.
+    pub read: u64,
+    /// The last finished checkpoint, 0 for none.
+    pub finished: u64,
+    /// The last key of the newest checkpoint's last Page.
+    pub position: Option<Key>,
+    /// The newest checkpoint's Pages.
+    pub pages: u64,
+    /// The documents that were late when they were written.
+    pub late: u64,
+    /// The sum that the last Fail told.
+    pub reason: Option<SumRange>,
+    /// The Pages of all checkpoints.
+    pub processed: u64,
+    /// Their rows.
+    pub indexed: u128,
+    /// The rows that retention took out.
+    pub deleted: u128,
+    /// The destination, ascending by key.
+    pub rows: Vec<Row>,
+}
+
+impl Transform {
+    /// Starts it. Takes no memory, as all that follow.
+    pub fn start(&mut self)
+        ensures { Changed 0 change.Start self.old self.new }
+    {
+        self.state = started_state(self.finished < self.begun);
+        self.prompted = true;
+    }
+
+    /// Asks for a stop.
+    pub fn ask_stop(&mut self, wait: bool)
+        ensures { Changed 0 (change.AskStop wait) self.old self.new }
+    {
+        self.state = State::Stopping;
+        self.waits = wait;
+    }
+
+    /// Brings it to its stop.
+    pub fn stop(&mut self)
+        ensures { Changed 0 change.Stop self.old self.new }
+    {
+        self.state = State::Stopped;
+    }
+
+    /// Asks for the next checkpoint.
+    pub fn prompt(&mut self)
+        ensures { Changed 0 change.Prompt self.old self.new }
+    {
+        self.prompted = true;
+    }
+
+    /// Fails it.
+    pub fn fail(&mut self, reason: SumRange)
+        ensures { Changed 0 (change.Fail reason) self.old self.new }
+    {
+        self.state = State::Failed;
+        self.reason = Some(reason);
+    }
+
+    /// Begins a checkpoint that sees so many of all documents.
+    pub fn begin(&mut self, n: u64, bound: Option<i64>, at_ms: i64, written: u64)
+        ensures { Changed written (change.Begin n bound at_ms) self.old self.new }
+    {
+        self.begun = n;
+        self.bound = bound;
+        self.begun_ms = at_ms;
+        self.read = written;
+        self.position = None;
+        self.pages = 0;
+        self.state = State::Indexing;
+        self.prompted = false;
+    }
+
+    /// Writes a page of rows, of which the last has this key.
+    pub fn page(&mut self, n: u64, rows: Vec<Row>, position: Key)
+        requires room { vec_len self.old.rows + length rows.items ≤ vec_capacity self.old.rows }
+        requires pages { self.old.pages < 2 ^ 63 }
+        requires processed { self.old.processed < 2 ^ 63 }
+        requires indexed { self.old.indexed < 2 ^ 127 }
+        requires ascending { AreAscending self.old.rows.items }
+        ensures { Changed 0 (change.Page n rows position) self.old self.new }
+    {
+        self.indexed += rows.len() as u128;
+        self.pages += 1;
+        self.processed += 1;
+        put_rows(&mut self.rows, rows);
+        self.position = Some(position);
+    }
+
+    /// Finishes a checkpoint.
+    pub fn finish(&mut self, n: u64)
+        ensures { Changed 0 (change.Finish n) self.old self.new }
+    {
+        self.finished = n;
+        self.state = after_finish(self.state);
+    }
+
+    /// Begins a new life.
+    pub fn reset(&mut self)
+        ensures { Changed 0 change.Reset self.old self.new }
+    {
+        self.state = State::Stopped;
+        self.waits = false;
+        self.prompted = false;
+        self.begun = 0;
+        self.bound = None;
+        self.begun_ms = 0;
+        self.read = 0;
+        self.finished = 0;
+        self.position = None;
+        self.pages = 0;
+        self.late = 0;
+        self.reason = None;
+        self.processed = 0;
+        self.indexed = 0;
+        self.deleted = 0;
+        self.rows.clear();
+    }
+}
+
+fn started_state(running: bool) -> State
+    ensures { result ≡ started running }
+{
+    if running {
+        State::Indexing
+    } else {
+        State::Started
+    }
+}
+
+fn after_finish(state: State) -> State
+    ensures { result ≡ lives.after_finish state }
+{
+    match state {
+        State::Indexing => State::Started,
+        other => other,
+    }
+}

@@ -1,0 +1,12 @@
+pub mod Routes
+pub mod Least
+pub mod Scalars
+pub mod Findings
+pub mod Documents
+pub mod Paths
+pub mod Settings
+pub mod Leaves
+pub mod Mappings
+pub mod Gathering
+pub mod Stamps
+pub mod Written

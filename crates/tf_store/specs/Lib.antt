@@ -1,0 +1,5 @@
+pub mod Histories
+pub mod Crashes
+pub mod Standing
+pub mod Answers
+pub mod Words
