@@ -1,7 +1,7 @@
 mod Examples
-mod Options
+pub mod Options
 mod Putting
-mod LineParts
+pub mod LineParts
 mod FormedLaws
 mod Numerals
 mod Rooms

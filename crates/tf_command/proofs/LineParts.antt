@@ -3,7 +3,7 @@ use Rattle.std.proofs.Common.{◌≡◌, ℕ, zero, suc, Bool, true, false, cond
 use Rattle.std.specs.List.{AllByRecursion}
 use Rattle.tf_model.specs.declared.tree.Tree.{Tree, out-Tree, map-Tree, roll-out-Tree, fold-roll-Tree}
 use Rattle.tf_model.specs.declared.tree.Tree.TheOpen.{Tree-F}
-use Rattle.tf_model.specs.Lines.{IsLeaf, IsLevel, IsLine, IsLineWithin}
+use Rattle.tf_model.specs.Lines.{IsLeaf, IsLevel, IsLine, IsLineWithin, NamesAscend}
 use Rattle.std.specs.Char.{digit_char}
 use Rattle.std.specs.Str.{bytes_eq}
 use Rattle.tf_model.specs.Trees.{items_in, items_level, members_in, members_level, text_in, text_level, member_at}
@@ -176,3 +176,51 @@ kept_at n (m ∷ ms) t h e =
     by_either (bytes_eq m.0 n)
     (λ same. let found : Some m.1 ≡ Some t = sym (ap (λ b. cond b (Some m.1) (member_at ms n)) same) ∙ e in let is : m.1 ≡ t = cc in subst IsKept is h.0)
     (λ other. kept_at n ms t h.1 (sym (ap (λ b. cond b (Some m.1) (member_at ms n)) other) ∙ e))
+
+-- ---- texts, and the names of members
+
+text_level_utf8 : (Inner : Tree → Type 0) (x : Tree-F Tree) (text : List ℕ) → IsLevel Inner x → text_level x ≡ Some text → IsUtf8 text
+text_level_utf8 Inner Tree-F.Null text h e = absurd (cc)
+text_level_utf8 Inner (Tree-F.Bool b) text h e = absurd (cc)
+text_level_utf8 Inner (Tree-F.Num z) text h e = absurd (cc)
+text_level_utf8 Inner (Tree-F.Str s) text h e = let same : s ≡ text = cc in subst IsUtf8 same h
+text_level_utf8 Inner (Tree-F.Arr items) text h e = absurd (cc)
+text_level_utf8 Inner (Tree-F.Obj members) text h e = absurd (cc)
+
+pub text_utf8 : (t : Tree) (text : List ℕ) → IsLine t → text_in t ≡ Some text → IsUtf8 text
+unfolding IsLine IsLineWithin text_in
+text_utf8 t text h e = text_level_utf8 (IsLineWithin 126) (out-Tree t) text h e
+
+-- names that ascend and are UTF-8
+pub record AreNamed (members : List (List ℕ × Tree)) : Type 0 where
+  pub ascend : NamesAscend members
+  pub utf8 : AllByRecursion (λ m. IsUtf8 m.0) members
+
+names_level : (Inner : Tree → Type 0) (x : Tree-F Tree) (members : List (List ℕ × Tree)) → IsLevel Inner x → members_level x ≡ Some members → AreNamed members
+names_level Inner Tree-F.Null members h e = absurd (cc)
+names_level Inner (Tree-F.Bool b) members h e = absurd (cc)
+names_level Inner (Tree-F.Num z) members h e = absurd (cc)
+names_level Inner (Tree-F.Str s) members h e = absurd (cc)
+names_level Inner (Tree-F.Arr items) members h e = absurd (cc)
+names_level Inner (Tree-F.Obj inside) members h e =
+    let same : inside ≡ members = cc in
+    subst AreNamed same (record { ascend = h.0; utf8 = each (λ m. IsUtf8 m.0 × Inner m.1) (λ m. IsUtf8 m.0) (λ m both. both.0) inside h.1 })
+
+pub names_of_members : (t : Tree) (members : List (List ℕ × Tree)) → IsLine t → members_in t ≡ Some members → AreNamed members
+unfolding IsLine IsLineWithin members_in
+names_of_members t members h e = names_level (IsLineWithin 126) (out-Tree t) members h e
+
+each_named : (n : ℕ) (later : Bool) (members : List (List ℕ × Tree)) → length (paired later (map printed_member members)) ≤ n → AllByRecursion (λ m. length m.0 ≤ n) members
+each_named n later [] h = tt
+each_named n later (m ∷ ms) h =
+    let rest = paired true (map printed_member ms) in
+    let all = length-append (comma_if later) (quoted m.0 ++ 58 ∷ (printed m.1 ++ rest)) in
+    let named = length-append (quoted m.0) (58 ∷ (printed m.1 ++ rest)) in
+    let text = length-append (flat_map escaped m.0) (34 ∷ []) in
+    let one = length-append (printed m.1) rest in
+    (omega (arith, h, all, named, text, one, escaped_more m.0), each_named n true ms (omega (arith, h, all, named, one)))
+
+-- no name is longer than the text
+pub names_short : (n : ℕ) (t : Tree) (members : List (List ℕ × Tree)) → length (printed t) ≤ n → members_in t ≡ Some members → AllByRecursion (λ m. length m.0 ≤ n) members
+unfolding members_in
+names_short n t members h e = each_named n false members (omega (arith, h, ap length (printed_level t ∙ members_level_text (out-Tree t) members e)))

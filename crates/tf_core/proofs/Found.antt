@@ -23,7 +23,7 @@ use Rattle.tf_core.specs.declared.ids.Ids.{Ids}
 use Rattle.tf_core.specs.declared.transform.Transform.{Transform}
 use Rattle.tf_core.specs.Ids.{AreIndexed, place_at}
 use Rattle.tf_core.specs.Legal.{IsTakenPast, read}
-use Rattle.tf_core.specs.Lookups.{into_at, is_into, some_has}
+use Rattle.tf_core.specs.Lookups.{head_of, into_at, is_into, some_has}
 use Rattle.tf_core.specs.Standing.{Stands}
 use Rattle.tf_core.specs.Summary.{put_of}
 use Rattle.tf_core.specs.Table.{Tells, transform_at}
@@ -170,6 +170,22 @@ module _ (past : List Entry) (indices : List SourceIndex) (docs : List Doc) (ts 
       subst (λ ds. Tells ds (Some t) (life t.id (read past))) (sym stands.docs_are)
       (subst (λ x. Tells docs x (life t.id (read past))) (into_by_id name ts t (subst AreApart stands.transforms_are (transforms_apart past stands.taken)) e) (stands.lives t.id))
 
+  newest_found : (xs : List Transform) → option_map put_of (head_of xs) ≡ head_of (map put_of xs)
+  newest_found [] = refl
+  newest_found (x ∷ xs) = refl
+
+  pub newest_in : (x : Option Transform) → x ≡ head_of ts → option_map put_of x ≡ head_of (transforms past)
+  newest_in x e = ap (option_map put_of) e ∙ (newest_found ts ∙ ap head_of (sym stands.transforms_are))
+
+  newest_by_id : (xs : List Transform) (t : Transform) → head_of xs ≡ Some t → transform_at t.id xs ≡ Some t
+  newest_by_id [] t e = absurd (let z : ◌≡◌ {A = Option Transform} None (Some t) = e in cc)
+  newest_by_id (x ∷ xs) t e =
+      subst (λ (y : Transform). cond (is_same y.id x.id) (Some x) (transform_at y.id xs) ≡ Some y) (same_Some x t e) (ap (λ b. cond b (Some x) (transform_at x.id xs)) (same_itself x.id))
+
+  pub newest_tells : (t : Transform) → head_of ts ≡ Some t → Tells (documents (read past)) (Some t) (life t.id (read past))
+  newest_tells t e =
+      subst (λ ds. Tells ds (Some t) (life t.id (read past))) (sym stands.docs_are) (subst (λ x. Tells docs x (life t.id (read past))) (newest_by_id ts t e) (stands.lives t.id))
+
   dest_names : (name : List ℕ) (xs : List Transform) → list_any (is_into name) (map put_of xs) ≡ list_any (λ (t : Transform). bytes_eq name t.config.dest) xs
   dest_names name [] = refl
   dest_names name (x ∷ xs) = ap (λ b. bytes_eq name x.config.dest || b) (dest_names name xs)
@@ -180,6 +196,6 @@ module _ (past : List Entry) (indices : List SourceIndex) (docs : List Doc) (ts 
       (λ j. not (e j || f j))
       ∙ (λ j. not (list_any (λ (s : SourceIndex). bytes_eq name s.name) (sym stands.indices_are j) || (sym (dest_names name ts) ∙ ap (list_any (is_into name)) (sym stands.transforms_are)) j))
 
-pub if_told : {R : Type 0} (now : R → Transform) (P : Transform → Type 0) (name : List ℕ) (ts : List Transform) (r : Option R) → option_map now r ≡ into_at name ts → ((t : Transform) → into_at name ts ≡ Some t → P t) → IfSome r (λ x. P (now x))
-if_told now P name ts None e h = tt
-if_told now P name ts (Some x) e h = h (now x) (sym e)
+pub if_told : {R : Type 0} (now : R → Transform) (P : Transform → Type 0) (found : Option Transform) (r : Option R) → option_map now r ≡ found → ((t : Transform) → found ≡ Some t → P t) → IfSome r (λ x. P (now x))
+if_told now P found None e h = tt
+if_told now P found (Some x) e h = h (now x) (sym e)

@@ -30,3 +30,4 @@ pub mod Used
 pub mod NextMove
 pub mod PageRows
 pub mod NextKind
+pub mod Commanded

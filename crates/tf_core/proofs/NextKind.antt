@@ -262,7 +262,7 @@ module _ (past : List Entry) (indices : List SourceIndex) (docs : List Doc) (ts 
       page_fits rows h = h
 
 -- ---- at the moment of the last entry
-last_is_timely : (past : List Entry) → IsTakenPast past → IsSpan (last_ms_in past) × IsNotBefore (last_ms_in past) (read past)
+pub last_is_timely : (past : List Entry) → IsTakenPast past → IsSpan (last_ms_in past) × IsNotBefore (last_ms_in past) (read past)
 last_is_timely [] taken = ((omega (arith, ints), omega (arith, ints)), tt)
 last_is_timely (e ∷ past) taken = (taken.1.legal.moment, omega (arith, ints))
 

@@ -20,3 +20,4 @@ pub mod Moves
 pub mod Lookups
 pub mod Example
 pub mod Texts
+pub mod Commanded

@@ -9,6 +9,7 @@ mod allowing;
 mod applying;
 mod built;
 mod catalogue;
+mod commanding;
 mod ids;
 mod index;
 mod kept;
@@ -34,5 +35,7 @@ mod transform;
 mod values;
 mod writing;
 
+pub use index::Index;
 pub use ready::Ready;
 pub use state::Core;
+pub use transform::Transform;

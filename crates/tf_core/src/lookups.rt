@@ -35,21 +35,29 @@ impl Core {
     }
 
     /// The number of the index with a name.
-    pub(crate) fn index_number(&self, name: &Text) -> Option<u64>
+    pub fn index_number(&self, name: &Text) -> Option<u64>
         ensures { result ≡ catalogue.number_of name.now (indices_in self.now.history) }
     {
         number_in(self.indices.as_slice(), name)
     }
 
     /// The index with a number.
-    pub(crate) fn index_at(&self, number: u64) -> Option<&Index>
+    pub fn index_at(&self, number: u64) -> Option<&Index>
         ensures { option_copied result ≡ slice_get (indices_in self.now.history) number }
     {
         self.indices.get(number as usize)
     }
 
+    /// The transform that was put last.
+    pub fn newest_transform(&self) -> Option<&Transform>
+        ensures put { option_map put_of (option_copied result) ≡ spec.newest_transform self.now.history }
+        ensures life { IfSome result (λ t. Tells (docs_in self.now.history) (Some t.now) (life_in t.now.id self.now.history)) }
+    {
+        newest(self.transforms.as_slice())
+    }
+
     /// The transform with an id.
-    pub(crate) fn transform(&self, id: &Text) -> Option<&Transform>
+    pub fn transform(&self, id: &Text) -> Option<&Transform>
         ensures put { option_map put_of (option_copied result) ≡ transform_of id.now (reverse self.now.history) }
         ensures life { Tells (docs_in self.now.history) (option_copied result) (life_in id.now self.now.history) }
     {
@@ -57,7 +65,7 @@ impl Core {
     }
 
     /// The place of the document with an id in an index, among all documents. Looks at no other document.
-    pub(crate) fn document_place(&self, index: u32, id: &Text) -> Option<u64>
+    pub fn document_place(&self, index: u32, id: &Text) -> Option<u64>
         ensures { result ≡ spec.document_place index id.now self.now.history }
     {
         place_in(&self.ids, self.docs.as_slice(), index, id)
@@ -67,10 +75,19 @@ impl Core {
 impl Core {
     /// How many documents a shard of an index has: the sequence number of its next one. Looks at the documents that were
     /// written after the shard's last one.
-    pub(crate) fn next_seq(&self, index: u32, shard: u32) -> u64
+    pub fn next_seq(&self, index: u32, shard: u32) -> u64
         ensures { result ≡ spec.shard_count index shard self.now.history }
     {
         seq_after(self.docs.as_slice(), index, shard)
+    }
+}
+
+fn newest(transforms: &[Transform]) -> Option<&Transform>
+    ensures { option_copied result ≡ spec.head_of transforms.now }
+{
+    match transforms {
+        [] => None,
+        [newest, ..] => Some(newest),
     }
 }
 
@@ -135,7 +152,7 @@ fn is_at(doc: Option<&Arc<Doc, Global>>, index: u32, id: &Text) -> bool
 
 impl Core {
     /// The transform whose destination has a name.
-    pub(crate) fn transform_into(&self, name: &Text) -> Option<&Transform>
+    pub fn transform_into(&self, name: &Text) -> Option<&Transform>
         ensures put { option_map put_of (option_copied result) ≡ spec.transform_into name.now self.now.history }
         ensures life { IfSome result (λ t. Tells (docs_in self.now.history) (Some t.now) (life_in t.now.id self.now.history)) }
     {
@@ -143,7 +160,7 @@ impl Core {
     }
 
     /// Whether a name is in use neither by an index nor by a destination.
-    pub(crate) fn is_free(&self, name: &Text) -> bool
+    pub fn is_free(&self, name: &Text) -> bool
         ensures { result ≡ legal.is_free name.now (reverse self.now.history) }
     {
         let is_index = names_index(self.indices.as_slice(), name);

@@ -1,6 +1,6 @@
 // The state that a history leaves.
 ghost use Rattle.std.specs.Prelude.{◌≡◌, ◌++◌, [], length, None, Some, IfOk, OnErr};
-ghost use Rattle.tf_core.specs.Legal.{AreTakenAfter};
+ghost use Rattle.tf_core.specs.Legal.{AreTakenAfter, IsTakenHistory};
 ghost use Rattle.tf_core.specs.Held.{last_ms_of, late_in, life_in, pages_in, row_count_in};
 
 use crate::applying::apply_all;
@@ -69,6 +69,13 @@ impl Core {
             found: 0,
             ready: None,
         }
+    }
+
+    /// Each entry of the history was taken after those before it. It does nothing: its clause is what a core keeps.
+    pub fn is_taken(&self)
+        ensures { IsTakenHistory self.now.history }
+    {
+        let _kept = &self.entries;
     }
 
     /// How many entries the history has.

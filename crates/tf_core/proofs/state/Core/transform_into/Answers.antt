@@ -21,5 +21,5 @@ pub returns-clause-life : goal.returns-clause-life
 returns-clause-life c =
     let inside = c.self.inside in
     subst (λ history. IfSome c.find_into.result (λ t. Tells (docs_in history) (Some t.now) (life_in t.now.id history))) (ap (λ (h : Held). h.history) c.self.view_is)
-    (if_told (λ t. t.now) (λ (t : Transform). Tells (docs_in (history_in inside.entries.items)) (Some t) (life_in t.id (history_in inside.entries.items))) c.args.name.now inside.transforms.items c.find_into.result (c.find_into.ensures ∙ ap (into_at c.args.name.now) c.as_slice.ensures.value)
+    (if_told (λ t. t.now) (λ (t : Transform). Tells (docs_in (history_in inside.entries.items)) (Some t) (life_in t.id (history_in inside.entries.items))) (into_at c.args.name.now inside.transforms.items) c.find_into.result (c.find_into.ensures ∙ ap (into_at c.args.name.now) c.as_slice.ensures.value)
     (into_tells (past_in inside.entries.items) inside.indices.items (shared inside.docs.items) inside.transforms.items c.self.invariant.stands c.args.name.now))
