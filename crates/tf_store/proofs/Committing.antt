@@ -18,7 +18,7 @@ use Rattle.tf_store.specs.Crashes.{IsBeforeOrAfter, Keeps}
 use Rattle.tf_store.specs.Standing.{StandsFor, KnownAt, IsKnown}
 use Rattle.tf_store.specs.Answers.{frame_size}
 use Rattle.tf_store.proofs.Taken.{history_taken}
-use Rattle.tf_store.proofs.Contents.{leads_more}
+use Rattle.tf_store.proofs.Contents.{leads_more, spelled_more}
 use Rattle.tf_store.proofs.Crashing.{before_or_after, stands_for, leaves_wider, keeps_more}
 
 -- a frame more
@@ -72,6 +72,7 @@ module _ {D : Type 0} (m : Meaning D) (held es : List Entry) (body : List ℕ) (
     known_longer same adds = record {
       within = omega (arith, known.within, length-append held es);
       taken = history_taken held es known.taken taken;
+      spelled = spelled_more held es known.spelled spells.has_spelling.each;
       crashes = subst (λ (b : Option ℕ). KnownAt b m (journal.opened_at new) (take found (held ++ es)) (held ++ es) failed (journal.file_len new) (journal.disk_of new)) (sym (same ∙ unbroken))
           (stands_more adds before.0, subst (λ (l : List Entry). Keeps m (journal.opened_at new) l (held ++ es) (journal.disk_of new)) (sym (take-append-le found held es known.within)) kept);
     }
@@ -81,6 +82,7 @@ module _ {D : Type 0} (m : Meaning D) (held es : List Entry) (body : List ℕ) (
     known_failed count broke counts_now = record {
       within = known.within;
       taken = known.taken;
+      spelled = known.spelled;
       crashes = subst (λ (b : Option ℕ). KnownAt b m (journal.opened_at new) (take found held) held es (journal.file_len new) (journal.disk_of new)) (sym broke)
           (λ image left. (leaves_history leaves before.0).each image (counts_now (journal.disk_of new) (m.moment (journal.disk_of old)) image (leaves_history leaves before.0).later left), kept, taken);
     }

@@ -1,8 +1,10 @@
 -- The histories of frames: they grow by a frame, there is one at most, and a damaged frame is the first.
 use Rattle.std.proofs.Common.{◌≡◌, inl, inr, ℕ, ◌≤◌, Bool, true, false, List, [], ◌∷◌, ◌++◌, length, sym, ◌∙◌, ap, subst, arith, length-append}
+use Rattle.std.specs.List.{AllByRecursion}
 use Rattle.std.proofs.lemmas.List.{append-nil}
 use Rattle.tf_model.specs.declared.entry.Entry.{Entry}
 use Rattle.tf_journal.specs.Frames.{Reading, reading, whole, damaged}
+use Rattle.tf_event.specs.Entries.{FitsEntry}
 use Rattle.tf_event.specs.declared.grammar.Grammar.TheVariants.{First}
 use Rattle.tf_event.proofs.BodyLaws.{one_body}
 use Rattle.tf_core.specs.Legal.{AreTakenAfter, IsTakenHistory}
@@ -31,6 +33,18 @@ leads_taken before (body ∷ bodies) held taken leads = leads_taken (before ++ l
 -- the entries of frames are a history whose entries were taken
 pub holds_taken : (bodies : List (List ℕ)) (held : List Entry) → Holds bodies held → IsTakenHistory held
 holds_taken bodies held holds = leads_taken [] bodies held tt holds
+
+pub spelled_more : (before es : List Entry) → AllByRecursion (FitsEntry First) before → AllByRecursion (FitsEntry First) es → AllByRecursion (FitsEntry First) (before ++ es)
+spelled_more [] es old new = new
+spelled_more (e ∷ before) es old new = (old.0, spelled_more before es old.1 new)
+
+leads_spelled : (before : List Entry) (bodies : List (List ℕ)) (held : List Entry) → AllByRecursion (FitsEntry First) before → LeadsTo before bodies held → AllByRecursion (FitsEntry First) held
+leads_spelled before [] held spelled leads = subst (AllByRecursion (FitsEntry First)) leads spelled
+leads_spelled before (body ∷ bodies) held spelled leads = leads_spelled (before ++ leads.0) bodies held (spelled_more before leads.0 spelled leads.1.has_spelling.each) leads.3
+
+-- each entry of frames has a spelling
+pub holds_spelled : (bodies : List (List ℕ)) (held : List Entry) → Holds bodies held → AllByRecursion (FitsEntry First) held
+holds_spelled bodies held holds = leads_spelled [] bodies held tt holds
 
 -- no frames that hold a history go past one that is damaged
 none_past : (start : List Entry) (before : List (List ℕ)) (body : List ℕ) (later front rest : List (List ℕ)) (held other : List Entry) → before ++ body ∷ later ≡ front ++ rest → LeadsTo start before held → IsDamagedAfter held body → LeadsTo start front other

@@ -16,7 +16,7 @@ use Rattle.tf_store.specs.Standing.{KnownAt, IsKnown, IsFound}
 use Rattle.tf_store.specs.Answers.{IsReplayRefusal, IsRefusalOf, LeavesContent, IsOpenRefusal}
 use Rattle.tf_store.specs.declared.error.OpenError.{OpenError}
 use Rattle.tf_store.specs.declared.error.OpenError.TheVariants as open_error
-use Rattle.tf_store.proofs.Contents.{has_what, holds_taken}
+use Rattle.tf_store.proofs.Contents.{has_what, holds_spelled, holds_taken}
 use Rattle.tf_store.proofs.Crashing.{stands_for, opened_same, keeps_opened}
 
 module _ {D : Type 0} (m : Meaning D) (old : D) where
@@ -48,6 +48,7 @@ module _ {D : Type 0} (m : Meaning D) (old : D) where
   known_opened opened held failed found is count unbroken = record {
     within = omega (arith, count);
     taken = holds_taken is.stands.frames held is.stands.holds;
+    spelled = holds_spelled is.stands.frames held is.stands.holds;
     crashes = subst (λ (b : Option ℕ). KnownAt b m (journal.opened_at opened) (take found held) held failed (journal.file_len opened) (journal.disk_of opened)) (sym unbroken)
         (is.stands, subst (λ (l : List Entry). Keeps m (journal.opened_at opened) l held (journal.disk_of opened)) (sym (take_all found held (omega (arith, count)))) (keeps_opened m old (journal.opened_at opened) (journal.disk_of opened) is.bytes held is.has is.opened));
   }

@@ -1,10 +1,13 @@
 -- What a store stands for, and what is known of crashes.
 use Rattle.std.specs.Prelude.{ℕ, ◌≤◌, List, ◌++◌, length, take, IfSome, Some, None}
+use Rattle.std.specs.List.{AllByRecursion}
 use Rattle.std.specs.declared.option.Option.{Option}
 use Rattle.tf_model.specs.declared.entry.Entry.{Entry}
 use Rattle.tf_disk.specs.Disk.{Meaning, Tells}
 use Rattle.tf_journal.specs.Standing.{HasFrames, disk_of, file_len, broken_at, opened_at}
 use Rattle.tf_journal.specs.declared.state.Journal.{Journal}
+use Rattle.tf_event.specs.Entries.{FitsEntry}
+use Rattle.tf_event.specs.declared.grammar.Grammar.TheVariants.{First}
 use Rattle.tf_core.specs.Legal.{AreTakenAfter, IsTakenHistory}
 use Rattle.tf_store.specs.Histories.{Holds, HasHistory}
 use Rattle.tf_store.specs.Crashes.{IsBeforeOrAfter, Keeps, IsOpened}
@@ -28,6 +31,7 @@ KnownAt (Some count) m t first history failed len disk = ((image : List ℕ) →
 pub record IsKnown {D : Type 0} (m : Meaning D) (found : ℕ) (history failed : List Entry) (journal : Journal D) : Type 0 where
   pub within : found ≤ length history
   pub taken : IsTakenHistory history
+  pub spelled : AllByRecursion (FitsEntry First) history
   pub crashes : KnownAt (broken_at journal) m (opened_at journal) (take found history) history failed (file_len journal) (disk_of journal)
 
 -- An opening found this history in the bytes of the disk, and its first sync was at the moment t.
@@ -37,3 +41,7 @@ pub record IsFound {D : Type 0} (m : Meaning D) (old new : D) (history : List En
   pub has : HasHistory bytes history
   pub opened : IsOpened m old t new bytes
   pub stands : StandsFor m history len new
+
+-- each entry of a history has a spelling
+abbrev pub AreSpelled : List Entry → Type 0
+AreSpelled history = ∥ AllByRecursion (FitsEntry First) history ∥₁

@@ -1,7 +1,9 @@
 // What a store tells.
 ghost use Rattle.std.specs.Prelude.{◌≡◌, length};
+ghost use Rattle.tf_store.specs.Standing.{AreSpelled};
 
 use crate::state::Store;
+use tf_core::Core;
 use tf_disk::Disk;
 
 impl<D: Disk> Store<D> {
@@ -12,6 +14,14 @@ impl<D: Disk> Store<D> {
         ensures { result ≡ broken_at self.now }
     {
         self.broken
+    }
+
+    /// What the history leaves. Takes no memory.
+    pub fn core(&self) -> &Core
+        ensures history { result.now.history ≡ history_of self.now }
+        ensures spelled { AreSpelled (history_of self.now) }
+    {
+        &self.core
     }
 
     /// How many entries the history has. Takes no memory.
