@@ -1,0 +1,5 @@
+mod Examples
+mod Placing
+mod Ascending
+mod LineLaws
+mod Showing
