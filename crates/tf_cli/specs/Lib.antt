@@ -1,16 +1,2 @@
-pub mod Asking
-pub mod Commands
-pub mod Configs
-pub mod Engine
-pub mod Forms
-pub mod Mappings
-pub mod Paging
-pub mod Places
-pub mod Standing
-pub mod Values
 pub mod Words
-pub mod Moves
-pub mod Replies
-pub mod Script
 pub mod Top
-pub mod Doing

@@ -8,6 +8,9 @@ use tf_io::{MemSink, MemSource};
 const SCRIPT: &[u8] =
     b"{\"op\":\"create_index\",\"index\":\"s\",\"mappings\":{\"properties\":{\"k\":{\"type\":\"keyword\"}}}}\n\t\n[]\n{\"op\":\"sea";
 
+// An empty journal: eight bytes, and a closed gate.
+const EMPTY: &[u8] = b"TFJRNL1\n\0";
+
 const REPLIES: &[u8] =
     b"{\"line\":1,\"no\":1,\"result\":\"created\"}\n{\"error\":\"bad_json\",\"line\":3,\"no\":1}\n{\"error\":\"bad_json\",\"line\":4,\"no\":1}\n";
 
@@ -23,11 +26,25 @@ fn words(alloc: Global, all: &[&str]) -> Result<Vec<String>, Fail> {
     Ok(words)
 }
 
-// The end of `run j` over a script, what the sink then has, and how many calls of the disk were made.
+// The end of `run j` over a script and an empty file, and how many calls of the disk were made.
 fn run(alloc: Global, src: &mut MemSource, out: &mut MemSink) -> Result<(End, u64), Fail> {
     let disk = MemDisk::new(alloc, b"", &[])?;
     let (end, disk) = run_top(alloc, &words(alloc, &["run", "j"])?, src, out, disk);
     Ok((end, disk.calls()))
+}
+
+// The end of `run j` over a script and a file, with the disk and the sink that it leaves.
+fn run_on(alloc: Global, script: &[u8], disk: MemDisk) -> Result<(End, MemDisk, MemSink), Fail> {
+    let mut src = MemSource::new(alloc, script, &[])?;
+    let mut out = MemSink::new(alloc, &[], &[])?;
+    let (end, disk) = run_top(
+        alloc,
+        &words(alloc, &["run", "j"])?,
+        &mut src,
+        &mut out,
+        disk,
+    );
+    Ok((end, disk, out))
 }
 
 #[test]
@@ -37,7 +54,8 @@ fn a_script_is_answered(rt: HostRuntime) -> Result<(), Fail> {
     let (end, calls) = run(rt.alloc(), &mut src, &mut out)?;
     assert_eq!(rt; end, End::new(0, 0));
     assert_eq!(rt; out.bytes(), REPLIES);
-    assert_eq!(rt; calls, 0);
+    // a sync, the length, the header and a sync, and then four calls for the one entry
+    assert_eq!(rt; calls, 8);
     Ok(())
 }
 
@@ -149,6 +167,80 @@ fn other_words_are_status_2(rt: HostRuntime) -> Result<(), Fail> {
         let disk = MemDisk::new(alloc, b"", &[])?;
         let (end, _) = run_top(alloc, &words(alloc, row)?, &mut src, &mut out, disk);
         assert_eq!(rt; end, End::new(2, 0));
+    }
+    Ok(())
+}
+
+#[test]
+fn an_empty_script_makes_an_empty_journal(rt: HostRuntime) -> Result<(), Fail> {
+    let (end, disk, out) = run_on(rt.alloc(), b"", MemDisk::new(rt.alloc(), b"", &[])?)?;
+    assert_eq!(rt; end, End::new(0, 0));
+    assert_eq!(rt; out.bytes().len(), 0);
+    assert_eq!(rt; disk.bytes(), EMPTY);
+    Ok(())
+}
+
+#[test]
+fn a_file_is_continued_or_its_damage_is_told(rt: HostRuntime) -> Result<(), Fail> {
+    let alloc = rt.alloc();
+    // Each file, and the end of a run of no line on it.
+    let rows: [(&[u8], u8, u64); 4] = [
+        (b"TFJRNL1\n\x01x", 6, 1),
+        (b"\0\0\0\0\0\0\0\0\0\0", 6, 0),
+        (b"123456789", 0, 0),
+        (b"", 0, 0),
+    ];
+    for (bytes, status, detail) in rows {
+        let (end, _, out) = run_on(alloc, b"", MemDisk::new(alloc, bytes, &[])?)?;
+        assert_eq!(rt; end, End::new(status, detail));
+        assert_eq!(rt; out.bytes().len(), 0);
+    }
+    Ok(())
+}
+
+#[test]
+fn a_script_in_two_halves_leaves_the_same_rows(rt: HostRuntime) -> Result<(), Fail> {
+    let alloc = rt.alloc();
+    let (end, disk, _) = run_on(alloc, PIVOT.as_bytes(), MemDisk::new(alloc, b"", &[])?)?;
+    assert_eq!(rt; end, End::new(0, 0));
+    let again = MemDisk::new(alloc, disk.bytes(), &[])?;
+    let (end, _, out) = run_on(alloc, b"{\"op\":\"search\",\"index\":\"d\"}\n", again)?;
+    assert_eq!(rt; end, End::new(0, 0));
+    assert_eq!(rt;
+        out.bytes(),
+        b"{\"hits\":[{\"_id\":\"[\\\"a\\\"]\",\"_source\":{\"n\":-5,\"z\":\"a\"}}],\"line\":1,\"no\":8,\"total\":1}\n"
+    );
+    Ok(())
+}
+
+// Whether each image that a crash now may leave is opened.
+fn opens(alloc: Global, disk: &MemDisk) -> Result<bool, Fail> {
+    for fill in [0u8, 1, 255] {
+        for keep in 0..3u64 {
+            let (end, _, _) = run_on(alloc, b"", disk.image(fill, keep)?)?;
+            if end.status != 0 {
+                return Ok(false);
+            }
+        }
+    }
+    Ok(true)
+}
+
+#[test]
+fn a_fault_at_any_call_leaves_a_history_that_was_there(rt: HostRuntime) -> Result<(), Fail> {
+    let alloc = rt.alloc();
+    // Opening makes four calls, and each of the eight entries four more.
+    for failing in 1..37u64 {
+        let (end, disk, out) = run_on(
+            alloc,
+            PIVOT.as_bytes(),
+            MemDisk::new(alloc, b"", &[failing])?,
+        )?;
+        let entries = if failing < 5 { 0 } else { (failing - 5) / 4 };
+        assert_eq!(rt; end, End::new(5, entries));
+        assert_eq!(rt; disk.calls(), failing);
+        assert_eq!(rt; out.bytes().len(), 0);
+        assert!(rt; opens(alloc, &disk)?);
     }
     Ok(())
 }

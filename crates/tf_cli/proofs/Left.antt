@@ -1,0 +1,75 @@
+-- What a run over a file leaves, from the answers of its steps.
+use Rattle.std.proofs.Common.{◌≡◌, ◌⊎◌, ℕ, ◌+◌, ◌<◌, ◌≤◌, ◌^◌, List, Option, None, Some, ◌++◌, length, take, reverse, refl, sym, ap, subst, ◌∙◌, arith, inl, inr}
+use Rattle.std.specs.Io.KnownBytes.{Appends}
+use mathlib.Core.List.{IsPrefix}
+use Rattle.tf_model.specs.Causes.{Rose}
+use Rattle.tf_model.specs.declared.entry.Entry.{Entry}
+use Rattle.tf_disk.specs.Disk.{Meaning}
+use Rattle.tf_journal.specs.declared.state.Journal.{Journal}
+use Rattle.tf_journal.specs.Standing.{broken_at, disk_of, file_len, opened_at}
+use Rattle.tf_store.specs.Answers.{IsOpenRefusal, frame_size}
+use Rattle.tf_store.specs.Standing.{IsKnown}
+use Rattle.tf_store.specs.declared.error.OpenError.{OpenError}
+use Rattle.tf_store.specs.declared.error.OpenError.TheVariants as open_error
+use Rattle.tf_store.specs.declared.error.StoreError.{StoreError}
+use Rattle.tf_store.specs.declared.error.StoreError.TheVariants as store_error
+use Rattle.tf_serial.specs.Script.{history_after, output}
+use Rattle.tf_serial.specs.Stops.{IsStop}
+use Rattle.tf_cli.specs.Top.{AfterOpening, Finds, HoldsAll, IsLeft, IsLeftOver, IsSound, IsWritten, stopped, unopened}
+use Rattle.tf_cli.specs.declared.outcome.Outcome.{Outcome}
+use Rattle.tf_cli.specs.declared.outcome.Outcome.TheVariants as outcome
+use Rattle.tf_cli.proofs.Held.{holds_all, may_hold}
+
+pub rose_later : (first before now : ℕ) → first ≤ before → Rose before now → Rose first now
+rose_later first before now later rose = grind arith
+
+module _ {D : Type 0} (m : Meaning D) (before : D) (written_before written_now : Option (List ℕ)) (sink_before sink_now : ℕ) (lines : List (List ℕ)) (first : List Entry) where
+  -- a run that opened its file
+  pub opened : (mid now : D) (t : ℕ) (o : Outcome) → Finds m before first → m.faults before ≤ m.faults mid → IsLeftOver m mid now written_before written_now sink_before sink_now lines t first o
+      → IsLeft m before now written_before written_now sink_before sink_now lines o
+  opened mid now t outcome.Done finds later left = record { first = first; finds = finds; t = t; then = left }
+  opened mid now t (outcome.WriteFault taken) finds later left = (left.0, record { first = first; finds = finds; t = t; then = left.1 })
+  opened mid now t (outcome.DiskFault entries) finds later left = (rose_later (m.faults before) (m.faults mid) (m.faults now) later left.0, inr (record { first = first; finds = finds; t = t; then = left.1 }))
+  opened mid now t (outcome.Damaged frame) finds later left = absurd left
+  opened mid now t outcome.Memory finds later left = inr (record { first = first; finds = finds; t = t; then = left })
+  opened mid now t (outcome.Full len) finds later left = record { first = first; finds = finds; t = t; then = left }
+
+  -- a run that did not open it
+  pub refused : (now : D) (e : OpenError) → IsOpenRefusal m before now e → IsLeft m before now written_before written_now sink_before sink_now lines (unopened e)
+  refused now open_error.Memory left = inl left
+  refused now (open_error.DiskFault count) left = (left.0, inl (record { none = refl; leaves = left.2 }))
+  refused now (open_error.Damaged frame) left = record { leaves = left.0; damage = left.1 }
+
+  -- a run that did all lines and came to writing
+  pub ran : (now : D) (t len : ℕ) (o : Outcome) (text : List ℕ) → IsWritten written_before written_now sink_before sink_now text o → text ≡ output (reverse first) 1 lines
+      → IsSound first (history_after first lines) → ∥ HoldsAll m t first (history_after first lines) len now ∥₁ → IsLeftOver m before now written_before written_now sink_before sink_now lines t first o
+  ran now t len outcome.Done text written is sound held = record { wrote = subst (Appends written_before written_now) is written; sound = sound; len = len; held = held }
+  ran now t len (outcome.WriteFault taken) text written is sound held =
+      (written.0, record { wrote = subst (λ x. Appends written_before written_now (take taken x)) is written.1; sound = sound; len = len; held = held })
+  ran now t len (outcome.DiskFault entries) text written is sound held = absurd written
+  ran now t len (outcome.Damaged frame) text written is sound held = absurd written
+  ran now t len outcome.Memory text written is sound held = absurd written
+  ran now t len (outcome.Full full) text written is sound held = absurd written
+
+  -- a run whose script stopped
+  pub stops : (left failed : List Entry) (found : ℕ) (journal : Journal D) (e : StoreError) → found ≡ length first → IsPrefix first left → ∥ IsKnown m found left failed journal ∥₁ → IsSound first left
+      → IsStop first lines left failed (broken_at journal) (file_len journal) (m.faults before) (m.faults (disk_of journal)) e
+      → IsLeftOver m before (disk_of journal) written_before written_now sink_before sink_now lines (opened_at journal) first (stopped e (length left))
+  stops left failed found journal store_error.Memory count begun known sound stop = record {
+    left = left;
+    len = file_len journal;
+    stopped = record { stops = stop.0; sound = sound; held = holds_all m first left failed found journal count begun known stop.1 };
+  }
+  stops left failed found journal (store_error.Disk told) count begun known sound stop = (
+    stop.3,
+    record { left = left; next = failed; stops = stop.0; sound = sound; count = refl; held = may_hold m first left failed found journal count begun known told stop.1 },
+  )
+  stops left failed found journal (store_error.Broken told) count begun known sound stop = absurd stop
+  stops left failed found journal (store_error.Full told) count begun known sound stop =
+      let len : file_len journal ≡ told = sym stop.1 in
+      record {
+        left = left;
+        next = stop.0.next;
+        stopped = record { stops = stop.0.stops; sound = sound; held = subst (λ n. ∥ HoldsAll m (opened_at journal) first left n (disk_of journal) ∥₁) len (holds_all m first left failed found journal count begun known stop.2) };
+        passes = subst (λ n. 2 ^ 40 < n + frame_size stop.0.next) len stop.0.passes;
+      }

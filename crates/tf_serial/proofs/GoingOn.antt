@@ -1,0 +1,90 @@
+-- A history that goes on, and the Pages in it.
+use Rattle.std.proofs.Common.{◌≡◌, ℕ, ◌+◌, ◌≤◌, List, [], ◌∷◌, ◌++◌, refl, sym, ap, subst, ◌∙◌, arith, append_assoc, length-append}
+use Rattle.std.specs.Prelude.{length, reverse}
+use Rattle.std.proofs.lemmas.List.{append-nil, length-reverse, reverse-append}
+use mathlib.Core.List.{IsPrefix}
+use Rattle.tf_model.specs.declared.entry.Entry.{Entry}
+use Rattle.tf_disk.specs.Disk.{Meaning}
+use Rattle.tf_disk.specs.declared.device.Disk.{Ghosts}
+use Rattle.tf_history.specs.Events.{Event}
+use Rattle.tf_history.specs.Histories.{AllRight}
+use Rattle.tf_core.specs.Legal.{read}
+use Rattle.tf_store.specs.Words.{disk_of, found_of, history_of, opened_at, opened_with}
+use Rattle.tf_store.specs.declared.state.Store.{Store}
+use Rattle.tf_serial.specs.Parts.{GoesOn, IsRightEntry, Runs}
+use Rattle.tf_serial.proofs.Prefixes.{prefix_self, prefix_through, reverse_more}
+
+length_read : (past : List Entry) → length (read past) ≡ length past
+length_read [] = refl
+length_read (e ∷ past) = let rest = length_read past in omega (arith, rest)
+
+-- no place is past the end
+none_behind : (m : ℕ) (events : List Event) → length events ≤ m → AllRight m events
+none_behind m [] short = tt
+none_behind m (e ∷ events) short = (none_behind m events (omega arith), λ le. absurd (omega (arith, short, le)))
+
+right_read : (m : ℕ) (past more : List Entry) → m ≤ length past → AllRight m (read past) → AllRight (length past) (read (more ++ past)) → AllRight m (read (more ++ past))
+right_read m past [] le old new = old
+right_read m past (e ∷ more) le old new =
+    (right_read m past more le old new.0, λ at. new.1 (omega (arith, length_read (more ++ past), length-append more past)))
+
+-- a history that goes on as another one has a past behind which the other's stands
+behind : (first now : List Entry) (p : IsPrefix first now) → reverse now ≡ reverse p.0 ++ reverse first
+behind first now p = ap reverse (sym p.1) ∙ reverse-append first p.0
+
+pub goes_itself : (first : List Entry) → GoesOn first first
+goes_itself first = record { begun = prefix_self first; right = none_behind (length first) (read (reverse first)) (omega (arith, length_read (reverse first), length-reverse first)) }
+
+pub goes_through : (first mid now : List Entry) → GoesOn first mid → GoesOn mid now → GoesOn first now
+goes_through first mid now p q =
+    let same : length (reverse mid) ≡ length mid = length-reverse mid in
+    record {
+      begun = prefix_through first mid now p.begun q.begun;
+      right = subst (λ past. AllRight (length first) (read past)) (sym (behind mid now q.begun))
+          (right_read (length first) (reverse mid) (reverse q.begun.0) (omega (arith, same, ap length p.begun.1, length-append first p.begun.0)) p.right
+          (subst (λ n. AllRight n (read (reverse q.begun.0 ++ reverse mid))) (sym same)
+          (subst (λ past. AllRight (length mid) (read past)) (behind mid now q.begun) q.right)));
+    }
+
+pub goes_entry : (first : List Entry) (e : Entry) → IsRightEntry (reverse first) e → GoesOn first (first ++ e ∷ [])
+goes_entry first e right =
+    let last : reverse (first ++ e ∷ []) ≡ e ∷ reverse first = reverse-append first (e ∷ []) in
+    record {
+      begun = (e ∷ [], refl);
+      right = subst (λ past. AllRight (length first) (read past)) (sym last) ((goes_itself first).right, λ at. right);
+    }
+
+module _ {D : Type 0} {g : Ghosts D} (m : Meaning D) where
+  pub runs_through : (old mid new : Store D g) → Runs m old mid → Runs m mid new → Runs m old new
+  runs_through old mid new p q = record {
+    history = goes_through (history_of old) (history_of mid) (history_of new) p.history q.history;
+    opened = q.opened ∙ p.opened;
+    opened_count = q.opened_count ∙ p.opened_count;
+    found = q.found ∙ p.found;
+    later = omega (arith, p.later, q.later);
+  }
+
+  pub runs_itself : (old : Store D g) → Runs m old old
+  runs_itself old = record { history = goes_itself (history_of old); opened = refl; opened_count = refl; found = refl; later = omega arith }
+
+  -- one entry more, where it is right
+  pub runs_entry : (old new : Store D g) (e : Entry) → history_of new ≡ history_of old ++ e ∷ [] → IsRightEntry (reverse (history_of old)) e → (opened_at new ≡ opened_at old) × (opened_with new ≡ opened_with old)
+      → found_of new ≡ found_of old → m.faults (disk_of old) ≤ m.faults (disk_of new) → Runs m old new
+  runs_entry old new e grown right opened found later = record {
+    history = subst (λ now. GoesOn (history_of old) now) (sym grown) (goes_entry (history_of old) e right);
+    opened = opened.0;
+    opened_count = opened.1;
+    found = found;
+    later = later;
+  }
+
+  -- the same history
+  pub runs_same : (old new : Store D g) → history_of new ≡ history_of old → (opened_at new ≡ opened_at old) × (opened_with new ≡ opened_with old) → found_of new ≡ found_of old
+      → m.faults (disk_of old) ≤ m.faults (disk_of new) → Runs m old new
+  runs_same old new same opened found later = record {
+    history = subst (λ now. GoesOn (history_of old) now) (sym same) (goes_itself (history_of old));
+    opened = opened.0;
+    opened_count = opened.1;
+    found = found;
+    later = later;
+  }

@@ -1,0 +1,112 @@
+-- The texts of the documents and the ids of the transforms of a history with a spelling.
+use Rattle.std.proofs.Common.{◌≡◌, ℕ, ◌+◌, ◌-◌, ◌<◌, ◌^◌, arith, Bool, true, false, cond, List, [], ◌∷◌, ◌++◌, length, Option, Some, IsUtf8, refl, sym, ap, ◌∙◌, subst}
+use Rattle.std.specs.List.{AllByRecursion}
+use Rattle.std.specs.Option.{option_and_then}
+use Rattle.std.specs.Prelude.{filter, not, reverse}
+use Rattle.std.proofs.lemmas.List.{reverse-append}
+use Rattle.std.proofs.lemmas.Str.{IsUtf8-had}
+use Rattle.std.proofs.Math.Logic.{∥∥₁_elim, ∥∥₁_map}
+use Rattle.std.proofs.Math.Nat.{ℕ_set}
+use Rattle.tf_model.specs.declared.doc.Doc.{Doc}
+use Rattle.tf_model.specs.declared.entry.Entry.{Entry}
+use Rattle.tf_model.specs.declared.entry.Kind.{Kind}
+use Rattle.tf_model.specs.declared.entry.Kind.TheVariants as kind
+use Rattle.tf_model.specs.Trees as trees
+use Rattle.tf_model.specs.Trees.{member_of}
+use Rattle.tf_event.specs.Entries.{FitsEntry, FitsKind}
+use Rattle.tf_event.specs.declared.grammar.Grammar.TheVariants.{First}
+use Rattle.tf_history.specs.Catalogue.{SourceIndex, catalogue}
+use Rattle.tf_history.specs.Lives.{documents, is_same, writes}
+use Rattle.tf_history.specs.Reading.{deed_of}
+use Rattle.tf_history.specs.Transforms.{PutTransform, transforms, transforms_after}
+use Rattle.tf_core.specs.Legal.{read}
+use Rattle.tf_core.specs.Texts.{HasTexts, IsShort}
+use Rattle.tf_core.specs.Values.{values_of}
+use Rattle.tf_store.specs.Standing.{AreSpelled}
+use Rattle.tf_serial.proofs.MemberTexts.{member_is_short}
+
+all_append : {X : Type 0} (P : X → Type 0) (xs ys : List X) → AllByRecursion P xs → AllByRecursion P ys → AllByRecursion P (xs ++ ys)
+all_append P [] ys a b = b
+all_append P (x ∷ xs) ys a b = (a.0, all_append P xs ys a.1 b)
+
+all_reverse : {X : Type 0} (P : X → Type 0) (xs : List X) → AllByRecursion P xs → AllByRecursion P (reverse xs)
+all_reverse P [] a = tt
+all_reverse P (x ∷ xs) a = subst (AllByRecursion P) (sym (reverse-append (x ∷ []) xs)) (all_append P (reverse xs) (x ∷ []) (all_reverse P xs a.1) (a.0, tt))
+
+all_filter : {X : Type 0} (P : X → Type 0) (p : X → Bool) (xs : List X) → AllByRecursion P xs → AllByRecursion P (filter p xs)
+all_filter P p [] a = tt
+all_filter P p (x ∷ xs) a = elim (p x) as (λ b. AllByRecursion P (cond b (x ∷ filter p xs) (filter p xs))) [
+  | true ↦ (a.0, all_filter P p xs a.1)
+  | false ↦ all_filter P p xs a.1
+]
+
+-- ---- documents
+written_short : (indices : List SourceIndex) (k : Kind) → FitsKind First k → AllByRecursion (HasTexts IsShort) (writes (deed_of values_of indices k))
+written_short indices (kind.Write index shard seq id tree) fits = (λ name text e. member_is_short tree fits.4 name text e, tt)
+written_short indices (kind.Index name shards mapping stamp quick) fits = tt
+written_short indices (kind.Put id config) fits = tt
+written_short indices (kind.Delete id) fits = tt
+written_short indices (kind.Start id) fits = tt
+written_short indices (kind.StopAsked id wait) fits = tt
+written_short indices (kind.Stopped id) fits = tt
+written_short indices (kind.Schedule id) fits = tt
+written_short indices (kind.Begin id n bound) fits = tt
+written_short indices (kind.Page id n rows) fits = tt
+written_short indices (kind.Finish id n) fits = tt
+written_short indices (kind.Fail id n key name sum) fits = tt
+written_short indices (kind.Reset id) fits = tt
+
+docs_short : (past : List Entry) → AllByRecursion (FitsEntry First) past → AllByRecursion (HasTexts IsShort) (documents (read past))
+docs_short [] all = tt
+docs_short (e ∷ past) all =
+    all_append (HasTexts IsShort) (documents (read past)) (writes (deed_of values_of (catalogue past) e.kind)) (docs_short past all.1) (written_short (catalogue past) e.kind all.0.kind)
+
+-- ---- transforms
+abbrev HasShortId : PutTransform → Type 0
+HasShortId p = IsShort p.id
+
+put_short : (indices : List SourceIndex) (k : Kind) (before : List PutTransform) → FitsKind First k → AllByRecursion HasShortId before → AllByRecursion HasShortId (transforms_after indices k before)
+put_short indices (kind.Put id config) before fits all = (fits.0, all)
+put_short indices (kind.Delete id) before fits all = all_filter HasShortId (λ (p : PutTransform). not (is_same id p.id)) before all
+put_short indices (kind.Index name shards mapping stamp quick) before fits all = all
+put_short indices (kind.Write index shard seq id tree) before fits all = all
+put_short indices (kind.Start id) before fits all = all
+put_short indices (kind.StopAsked id wait) before fits all = all
+put_short indices (kind.Stopped id) before fits all = all
+put_short indices (kind.Schedule id) before fits all = all
+put_short indices (kind.Begin id n bound) before fits all = all
+put_short indices (kind.Page id n rows) before fits all = all
+put_short indices (kind.Finish id n) before fits all = all
+put_short indices (kind.Fail id n key name sum) before fits all = all
+put_short indices (kind.Reset id) before fits all = all
+
+ids_short : (past : List Entry) → AllByRecursion (FitsEntry First) past → AllByRecursion HasShortId (transforms past)
+ids_short [] all = tt
+ids_short (e ∷ past) all = put_short (catalogue past) e.kind (transforms past) all.0.kind (ids_short past all.1)
+
+-- ---- what is known to be there
+not_over : (n most : ℕ) → n < most → (n + 1) - most ≡ 0
+not_over n most h = omega arith
+
+short_had : (text : List ℕ) → ∥ IsShort text ∥₁ → IsShort text
+short_had text t =
+    let none_over : (length text + 1) - 2 ^ 32 ≡ 0 = ∥∥₁_elim t (hlevel ℕ_set) (λ (s : IsShort text). not_over (length text) (2 ^ 32) s.0) in
+    (omega (arith, none_over), IsUtf8-had text (∥∥₁_map t (λ (s : IsShort text). s.1)))
+
+docs_had : (docs : List Doc) → ∥ AllByRecursion (HasTexts IsShort) docs ∥₁ → AllByRecursion (HasTexts IsShort) docs
+docs_had [] t = tt
+docs_had (d ∷ docs) t =
+    (λ name text e. short_had text (∥∥₁_map t (λ (all : AllByRecursion (HasTexts IsShort) (d ∷ docs)). all.0 name text e)), docs_had docs (∥∥₁_map t (λ (all : AllByRecursion (HasTexts IsShort) (d ∷ docs)). all.1)))
+
+ids_had : (puts : List PutTransform) → ∥ AllByRecursion HasShortId puts ∥₁ → AllByRecursion HasShortId puts
+ids_had [] t = tt
+ids_had (p ∷ puts) t =
+    (short_had p.id (∥∥₁_map t (λ (all : AllByRecursion HasShortId (p ∷ puts)). all.0)), ids_had puts (∥∥₁_map t (λ (all : AllByRecursion HasShortId (p ∷ puts)). all.1)))
+
+-- the texts of documents have spellings
+pub texts_are_short : (history : List Entry) → AreSpelled history → AllByRecursion (HasTexts IsShort) (documents (read (reverse history)))
+texts_are_short history t = docs_had (documents (read (reverse history))) (∥∥₁_map t (λ (all : AllByRecursion (FitsEntry First) history). docs_short (reverse history) (all_reverse (FitsEntry First) history all)))
+
+-- the ids of transforms have spellings
+pub ids_are_short : (history : List Entry) → AreSpelled history → AllByRecursion HasShortId (transforms (reverse history))
+ids_are_short history t = ids_had (transforms (reverse history)) (∥∥₁_map t (λ (all : AllByRecursion (FitsEntry First) history). ids_short (reverse history) (all_reverse (FitsEntry First) history all)))

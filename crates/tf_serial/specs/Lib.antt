@@ -1,0 +1,10 @@
+pub mod Forms
+pub mod Configs
+pub mod Mappings
+pub mod Asking
+pub mod Moves
+pub mod Replies
+pub mod Script
+pub mod Stops
+pub mod Parts
+pub mod Settling

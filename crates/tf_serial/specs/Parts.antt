@@ -1,0 +1,74 @@
+-- What calls over a store leave of a history that comes to be entry by entry.
+use Rattle.std.specs.Prelude.{◌≡◌, ℕ, ◌+◌, ◌<◌, ◌≤◌, ◌^◌, List, [], ◌++◌, length, reverse, Option, Some, None}
+use mathlib.Core.List.{IsPrefix}
+use Rattle.tf_model.specs.Causes.{Rose}
+use Rattle.tf_model.specs.declared.entry.Entry.{Entry}
+use Rattle.tf_disk.specs.Disk.{Meaning}
+use Rattle.tf_disk.specs.declared.device.Disk.{Ghosts}
+use Rattle.tf_event.specs.Entries.{FitsEntry}
+use Rattle.tf_event.specs.declared.grammar.Grammar.TheVariants.{First}
+use Rattle.tf_history.specs.Catalogue.{catalogue}
+use Rattle.tf_history.specs.Histories.{AllRight, IsRightEvent}
+use Rattle.tf_history.specs.Reading.{deed_of}
+use Rattle.tf_core.specs.Legal.{IsTaken, read}
+use Rattle.tf_core.specs.Values.{values_of}
+use Rattle.tf_store.specs.Answers.{frame_size}
+use Rattle.tf_store.specs.Words.{broken_at, disk_of, failed_of, file_len, found_of, history_of, opened_at, opened_with}
+use Rattle.tf_store.specs.declared.error.StoreError.{StoreError}
+use Rattle.tf_store.specs.declared.error.StoreError.TheVariants as store_error
+use Rattle.tf_store.specs.declared.state.Store.{Store}
+use Rattle.tf_serial.specs.declared.asked.Asked.{Asked}
+use Rattle.tf_serial.specs.declared.asked.Asked.TheVariants.{Accepted}
+
+-- a Page is right after a past; every other entry is
+abbrev pub IsRightEntry : List Entry → Entry → Type 0
+IsRightEntry past e = IsRightEvent (deed_of values_of (catalogue past) e.kind) (read past)
+
+-- an entry that is taken next, has a spelling and is right
+pub record IsNext (past : List Entry) (e : Entry) : Type 0 where
+  pub taken : IsTaken past e
+  pub fits : FitsEntry First e
+  pub right : IsRightEntry past e
+
+-- an entry that is asked for is so
+abbrev pub AsksNext : List Entry → Asked → Type 0
+AsksNext past (Accepted e) = IsNext past e
+AsksNext past _ = Unit {0}
+
+-- The first history begins the one that is left, which begins, with the entries that come next behind it, the whole one.
+pub record IsPart (first whole left next : List Entry) : Type 0 where
+  pub begun : IsPrefix first left
+  pub part : IsPrefix (left ++ next) whole
+
+-- the frame of the entries that come next would make the file longer than 2^40 bytes
+pub record IsFullAt (first whole left : List Entry) (len : ℕ) : Type 0 where
+  pub next : List Entry
+  pub part : IsPart first whole left next
+  pub passes : 2 ^ 40 < len + frame_size next
+
+-- why the way to a whole history ends before it, and what is left then
+abbrev pub IsStopAt : List Entry → List Entry → List Entry → List Entry → Option ℕ → ℕ → ℕ → ℕ → StoreError → Type 0
+IsStopAt first whole left failed broken len faults_before faults_now store_error.Memory = IsPart first whole left [] × (broken ≡ None)
+IsStopAt first whole left failed broken len faults_before faults_now (store_error.Disk count) =
+    IsPart first whole left failed × (broken ≡ Some count) × (count ≡ faults_now) × Rose faults_before faults_now
+IsStopAt first whole left failed broken len faults_before faults_now (store_error.Broken count) = ⊥
+IsStopAt first whole left failed broken len faults_before faults_now (store_error.Full told) = IsFullAt first whole left len × (told ≡ len) × (broken ≡ None)
+
+-- a history goes on as another one, in which the Pages behind it are right
+pub record GoesOn (first now : List Entry) : Type 0 where
+  pub begun : IsPrefix first now
+  pub right : AllRight (length first) (read (reverse now))
+
+module _ {D : Type 0} {g : Ghosts D} (m : Meaning D) where
+  -- what a call leaves of a store, whatever it answers
+  pub record Runs (old new : Store D g) : Type 0 where
+    pub history : GoesOn (history_of old) (history_of new)
+    pub opened : opened_at new ≡ opened_at old
+    pub opened_count : opened_with new ≡ opened_with old
+    pub found : found_of new ≡ found_of old
+    pub later : m.faults (disk_of old) ≤ m.faults (disk_of new)
+
+  -- a call stops on the way to a whole history
+  abbrev pub Stops : Store D g → List Entry → Store D g → StoreError → Type 0
+  Stops old whole new error =
+      IsStopAt (history_of old) whole (history_of new) (failed_of new) (broken_at new) (file_len new) (m.faults (disk_of old)) (m.faults (disk_of new)) error

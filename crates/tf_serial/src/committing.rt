@@ -1,0 +1,30 @@
+// Committing one entry.
+ghost use Rattle.std.specs.Prelude.{◌≡◌, ◌∷◌, ◌++◌, [], IfErr, None, OnOk, reverse};
+ghost use Rattle.tf_serial.specs.Parts.{IsNext, Runs, Stops};
+ghost use Rattle.tf_store.specs.Words.{broken_at, history_of};
+
+use std::alloc::Global;
+use tf_disk::Disk;
+use tf_model::{Entry, List};
+use tf_store::{Store, StoreError};
+
+/// Makes the history longer by an entry, as one frame of the file.
+pub fn commit_entry<D: Disk>(
+    alloc: Global,
+    store: &mut Store<D>,
+    entry: Entry,
+) -> Result<(), StoreError>
+    requires whole { broken_at store.old ≡ None }
+    requires next { IsNext (reverse (history_of store.old)) entry }
+    ensures after { OnOk result (history_of store.new ≡ history_of store.old ++ entry ∷ []) }
+    ensures whole { OnOk result (broken_at store.new ≡ None) }
+    ensures stops { IfErr result (Stops D.meaning store.old (history_of store.old ++ entry ∷ []) store.new) }
+    ensures runs { Runs D.meaning store.old store.new }
+{
+    let mut entries = List::new(alloc);
+    entries.push(entry)?;
+    match store.commit(entries) {
+        Ok(_) => Ok(()),
+        Err(error) => Err(error),
+    }
+}
