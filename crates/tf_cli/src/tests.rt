@@ -8,6 +8,10 @@ use tf_io::{MemSink, MemSource};
 const SCRIPT: &[u8] =
     b"{\"op\":\"create_index\",\"index\":\"s\",\"mappings\":{\"properties\":{\"k\":{\"type\":\"keyword\"}}}}\n\t\n[]\n{\"op\":\"sea";
 
+// The reply to a search of the destination in a later run.
+const HIT: &[u8] =
+    b"{\"hits\":[{\"_id\":\"[\\\"a\\\"]\",\"_source\":{\"n\":-5,\"z\":\"a\"}}],\"line\":1,\"no\":8,\"total\":1}\n";
+
 // An empty journal: eight bytes, and a closed gate.
 const EMPTY: &[u8] = b"TFJRNL1\n\0";
 
@@ -206,10 +210,7 @@ fn a_script_in_two_halves_leaves_the_same_rows(rt: HostRuntime) -> Result<(), Fa
     let again = MemDisk::new(alloc, disk.bytes(), &[])?;
     let (end, _, out) = run_on(alloc, b"{\"op\":\"search\",\"index\":\"d\"}\n", again)?;
     assert_eq!(rt; end, End::new(0, 0));
-    assert_eq!(rt;
-        out.bytes(),
-        b"{\"hits\":[{\"_id\":\"[\\\"a\\\"]\",\"_source\":{\"n\":-5,\"z\":\"a\"}}],\"line\":1,\"no\":8,\"total\":1}\n"
-    );
+    assert_eq!(rt; out.bytes(), HIT);
     Ok(())
 }
 
