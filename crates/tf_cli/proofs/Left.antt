@@ -1,5 +1,5 @@
 -- What a run over a file leaves, from the answers of its steps.
-use Rattle.std.proofs.Common.{◌≡◌, ◌⊎◌, ℕ, ◌+◌, ◌<◌, ◌≤◌, ◌^◌, List, Option, None, Some, ◌++◌, length, take, reverse, refl, sym, ap, subst, ◌∙◌, arith, inl, inr}
+use Rattle.std.proofs.Common.{◌≡◌, ◌⊎◌, ℕ, ◌+◌, ◌<◌, ◌≤◌, ◌^◌, List, Option, None, Some, [], ◌∷◌, ◌++◌, length, take, reverse, refl, sym, ap, subst, ◌∙◌, arith, inl, inr}
 use Rattle.std.specs.Io.KnownBytes.{Appends}
 use mathlib.Core.List.{IsPrefix}
 use Rattle.tf_model.specs.Causes.{Rose}
@@ -13,8 +13,8 @@ use Rattle.tf_store.specs.declared.error.OpenError.{OpenError}
 use Rattle.tf_store.specs.declared.error.OpenError.TheVariants as open_error
 use Rattle.tf_store.specs.declared.error.StoreError.{StoreError}
 use Rattle.tf_store.specs.declared.error.StoreError.TheVariants as store_error
+use Rattle.tf_serial.specs.Parts.{IsStop}
 use Rattle.tf_serial.specs.Script.{history_after, output}
-use Rattle.tf_serial.specs.Stops.{IsStop}
 use Rattle.tf_cli.specs.Top.{AfterOpening, Finds, HoldsAll, IsLeft, IsLeftOver, IsSound, IsWritten, stopped, unopened}
 use Rattle.tf_cli.specs.declared.outcome.Outcome.{Outcome}
 use Rattle.tf_cli.specs.declared.outcome.Outcome.TheVariants as outcome
@@ -53,7 +53,7 @@ module _ {D : Type 0} (m : Meaning D) (before : D) (written_before written_now :
 
   -- a run whose script stopped
   pub stops : (left failed : List Entry) (found : ℕ) (journal : Journal D) (e : StoreError) → found ≡ length first → IsPrefix first left → ∥ IsKnown m found left failed journal ∥₁ → IsSound first left
-      → IsStop first lines left failed (broken_at journal) (file_len journal) (m.faults before) (m.faults (disk_of journal)) e
+      → IsStop first (history_after first lines) left failed (broken_at journal) (file_len journal) (m.faults before) (m.faults (disk_of journal)) e
       → IsLeftOver m before (disk_of journal) written_before written_now sink_before sink_now lines (opened_at journal) first (stopped e (length left))
   stops left failed found journal store_error.Memory count begun known sound stop = record {
     left = left;
@@ -70,6 +70,6 @@ module _ {D : Type 0} (m : Meaning D) (before : D) (written_before written_now :
       record {
         left = left;
         next = stop.0.next;
-        stopped = record { stops = stop.0.stops; sound = sound; held = subst (λ n. ∥ HoldsAll m (opened_at journal) first left n (disk_of journal) ∥₁) len (holds_all m first left failed found journal count begun known stop.2) };
-        passes = subst (λ n. 2 ^ 40 < n + frame_size stop.0.next) len stop.0.passes;
+        stopped = record { stops = stop.0.part; sound = sound; held = subst (λ n. ∥ HoldsAll m (opened_at journal) first left n (disk_of journal) ∥₁) len (holds_all m first left failed found journal count begun known stop.2) };
+        passes = subst (λ n. 2 ^ 40 < n + frame_size (stop.0.next ∷ [])) len stop.0.passes;
       }

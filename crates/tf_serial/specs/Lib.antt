@@ -5,6 +5,5 @@ pub mod Asking
 pub mod Moves
 pub mod Replies
 pub mod Script
-pub mod Stops
 pub mod Parts
 pub mod Settling

@@ -1,5 +1,5 @@
 -- What calls over a store leave of a history that comes to be entry by entry.
-use Rattle.std.specs.Prelude.{◌≡◌, ℕ, ◌+◌, ◌<◌, ◌≤◌, ◌^◌, List, [], ◌++◌, length, reverse, Option, Some, None}
+use Rattle.std.specs.Prelude.{◌≡◌, ℕ, ◌+◌, ◌<◌, ◌≤◌, ◌^◌, List, [], ◌∷◌, ◌++◌, length, reverse, Option, Some, None}
 use mathlib.Core.List.{IsPrefix}
 use Rattle.tf_model.specs.Causes.{Rose}
 use Rattle.tf_model.specs.declared.entry.Entry.{Entry}
@@ -40,19 +40,20 @@ pub record IsPart (first whole left next : List Entry) : Type 0 where
   pub begun : IsPrefix first left
   pub part : IsPrefix (left ++ next) whole
 
--- the frame of the entries that come next would make the file longer than 2^40 bytes
-pub record IsFullAt (first whole left : List Entry) (len : ℕ) : Type 0 where
-  pub next : List Entry
-  pub part : IsPart first whole left next
-  pub passes : 2 ^ 40 < len + frame_size next
+-- the frame of the entry that comes next would make the file longer than 2^40 bytes
+pub record IsFull (first whole left : List Entry) (len : ℕ) : Type 0 where
+  pub next : Entry
+  pub part : IsPart first whole left (next ∷ [])
+  pub passes : 2 ^ 40 < len + frame_size (next ∷ [])
 
--- why the way to a whole history ends before it, and what is left then
-abbrev pub IsStopAt : List Entry → List Entry → List Entry → List Entry → Option ℕ → ℕ → ℕ → ℕ → StoreError → Type 0
-IsStopAt first whole left failed broken len faults_before faults_now store_error.Memory = IsPart first whole left [] × (broken ≡ None)
-IsStopAt first whole left failed broken len faults_before faults_now (store_error.Disk count) =
+-- Why the way to a whole history ends before it, and what is left then: after a disk fault the entries whose append failed
+-- come next.
+abbrev pub IsStop : List Entry → List Entry → List Entry → List Entry → Option ℕ → ℕ → ℕ → ℕ → StoreError → Type 0
+IsStop first whole left failed broken len faults_before faults_now store_error.Memory = IsPart first whole left [] × (broken ≡ None)
+IsStop first whole left failed broken len faults_before faults_now (store_error.Disk count) =
     IsPart first whole left failed × (broken ≡ Some count) × (count ≡ faults_now) × Rose faults_before faults_now
-IsStopAt first whole left failed broken len faults_before faults_now (store_error.Broken count) = ⊥
-IsStopAt first whole left failed broken len faults_before faults_now (store_error.Full told) = IsFullAt first whole left len × (told ≡ len) × (broken ≡ None)
+IsStop first whole left failed broken len faults_before faults_now (store_error.Broken count) = ⊥
+IsStop first whole left failed broken len faults_before faults_now (store_error.Full told) = IsFull first whole left len × (told ≡ len) × (broken ≡ None)
 
 -- a history goes on as another one, in which the Pages behind it are right
 pub record GoesOn (first now : List Entry) : Type 0 where
@@ -71,4 +72,4 @@ module _ {D : Type 0} {g : Ghosts D} (m : Meaning D) where
   -- a call stops on the way to a whole history
   abbrev pub Stops : Store D g → List Entry → Store D g → StoreError → Type 0
   Stops old whole new error =
-      IsStopAt (history_of old) whole (history_of new) (failed_of new) (broken_at new) (file_len new) (m.faults (disk_of old)) (m.faults (disk_of new)) error
+      IsStop (history_of old) whole (history_of new) (failed_of new) (broken_at new) (file_len new) (m.faults (disk_of old)) (m.faults (disk_of new)) error

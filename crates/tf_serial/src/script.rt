@@ -8,8 +8,7 @@ ghost use Rattle.tf_serial.specs.Parts.{AsksNext, IsNext, Runs, Stops};
 ghost use Rattle.tf_serial.specs.Replies as replies;
 ghost use Rattle.tf_serial.specs.Replies.{reply};
 ghost use Rattle.tf_serial.specs.Script.{IsGrouped, after_asked, after_line, history_after, output, reply_to};
-ghost use Rattle.tf_serial.specs.Stops.{IsStop};
-ghost use Rattle.tf_store.specs.Words.{broken_at, disk_of, failed_of, file_len, found_of, history_of, opened_at, opened_with};
+ghost use Rattle.tf_store.specs.Words.{broken_at, disk_of, found_of, history_of, opened_at, opened_with};
 
 use crate::asked::{Asked, done_by};
 use crate::asking::ask;
@@ -37,7 +36,7 @@ pub fn run_script<D: Disk>(
     ensures output { IfOk result (λ text. string_bytes text ≡ output (reverse (history_of store.old)) 1 lines.now) }
     ensures after { OnOk result (history_of store.new ≡ history_after (history_of store.old) lines.now) }
     ensures whole { OnOk result (broken_at store.new ≡ None) }
-    ensures stops { IfErr result (IsStop (history_of store.old) lines.now (history_of store.new) (failed_of store.new) (broken_at store.new) (file_len store.new) (D.meaning.faults (disk_of store.old)) (D.meaning.faults (disk_of store.new))) }
+    ensures stops { IfErr result (Stops D.meaning store.old (history_after (history_of store.old) lines.now) store.new) }
     ensures begun { IsPrefix (history_of store.old) (history_of store.new) }
     // The Pages that a settling makes are right.
     ensures right { AllRight (length (history_of store.old)) (read (reverse (history_of store.new))) }

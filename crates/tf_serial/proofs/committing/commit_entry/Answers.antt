@@ -37,8 +37,8 @@ returns-in-Err-clause-stops g c =
     let error = c.in-Err.error in
     let one : es ≡ c.args.entry ∷ [] = c.in_ok-push.ensures.ok ∙ ap (λ (l : List Entry). l ++ c.args.entry ∷ []) c.new-entries.ensures in
     subst (λ (l : List Entry). Stops m old (history_of old ++ l) new error) one
-    (stop_of_commit (history_of old) es (history_of new) (failed_of old) (failed_of new) (broken_at old) (broken_at new) (file_len old) (file_len new) (length (history_of old ++ es)) (m.faults (disk_of old)) (m.faults (disk_of new)) error
-    c.requires.whole c.in-Err.ensures.answer c.in-Err.ensures.history c.in-Err.ensures.broken c.in-Err.ensures.failed
+    (stop_of_commit (history_of old) es (history_of new) (failed_of old) (failed_of new) c.args.entry (broken_at old) (broken_at new) (file_len old) (file_len new) (length (history_of old ++ es)) (m.faults (disk_of old)) (m.faults (disk_of new)) error
+    one c.requires.whole c.in-Err.ensures.answer c.in-Err.ensures.history c.in-Err.ensures.broken c.in-Err.ensures.failed
     (no_call error (journal_of new ≡ journal_of old) (file_len new ≡ file_len old) (λ same. ap journal.file_len same) c.in-Err.ensures.no_call))
 
 pub returns-in-Err-clause-runs : goal.returns-in-Err-clause-runs

@@ -1,17 +1,9 @@
 use Rattle.std.proofs.Common.{List, subst}
 use Rattle.tf_model.specs.declared.entry.Entry.{Entry}
 use Rattle.tf_core.specs.Legal.{IsTakenHistory}
-use Rattle.tf_store.specs.Words.{broken_at, disk_of, failed_of, file_len, history_of}
+use Rattle.tf_store.specs.Words.{history_of}
 use Rattle.tf_serial.proofs.Grouped.{is_grouped, right_whole}
-use Rattle.tf_serial.proofs.Stopping.{lines_stop}
 use Rattle.tf_serial.proofs.script.run_script.Goals as goal
-
-pub returns-clause-stops : goal.returns-clause-stops
-returns-clause-stops g c =
-    let m = g.D.Disk.meaning in
-    let old = c.args.store.now in
-    let new = c.do_lines-result.new.store in
-    lines_stop c.do_lines-result.result (history_of old) c.args.lines.now (history_of new) (failed_of new) (broken_at new) (file_len new) (m.faults (disk_of old)) (m.faults (disk_of new)) c.do_lines-result.ensures.stops
 
 pub returns-clause-grouped : goal.returns-clause-grouped
 returns-clause-grouped g c right =
