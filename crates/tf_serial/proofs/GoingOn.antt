@@ -23,13 +23,14 @@ none_behind : (m : ℕ) (events : List Event) → length events ≤ m → AllRig
 none_behind m [] short = tt
 none_behind m (e ∷ events) short = (none_behind m events (omega arith), λ le. absurd (omega (arith, short, le)))
 
-right_read : (m : ℕ) (past more : List Entry) → m ≤ length past → AllRight m (read past) → AllRight (length past) (read (more ++ past)) → AllRight m (read (more ++ past))
+-- a past whose older part has right Pages from a place on, and whose newer part has right ones
+pub right_read : (m : ℕ) (past more : List Entry) → m ≤ length past → AllRight m (read past) → AllRight (length past) (read (more ++ past)) → AllRight m (read (more ++ past))
 right_read m past [] le old new = old
 right_read m past (e ∷ more) le old new =
     (right_read m past more le old new.0, λ at. new.1 (omega (arith, length_read (more ++ past), length-append more past)))
 
 -- a history that goes on as another one has a past behind which the other's stands
-behind : (first now : List Entry) (p : IsPrefix first now) → reverse now ≡ reverse p.0 ++ reverse first
+pub behind : (first now : List Entry) (p : IsPrefix first now) → reverse now ≡ reverse p.0 ++ reverse first
 behind first now p = ap reverse (sym p.1) ∙ reverse-append first p.0
 
 pub goes_itself : (first : List Entry) → GoesOn first first
