@@ -5,6 +5,9 @@ ghost use Rattle.tf_serial.specs.Replies as spec;
 use std::alloc::Global;
 use tf_model::{Entry, Kind, OutOfMemory, Text};
 
+/// How many rows a search asks for, and shows.
+pub const MAX_HITS: u32 = 10;
+
 /// Why a line is refused.
 #[derive(Drop)]
 pub enum Refusal {

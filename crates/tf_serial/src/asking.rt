@@ -9,16 +9,13 @@ ghost use Rattle.tf_event.specs.declared.grammar.Grammar.TheVariants.{First};
 ghost use Rattle.tf_core.specs.Commanded as commanded;
 ghost use Rattle.tf_serial.specs.Asking as spec;
 
-use crate::asked::{Asked, Refusal};
+use crate::asked::{Asked, MAX_HITS, Refusal};
 use crate::making::{document_made, index_made, text_is_utf8, transform_made};
 use std::alloc::Global;
 use tf_command::{Command, LineError, Op, is_blank, read_command};
 use tf_core::Core;
 use tf_json::line_is_read;
 use tf_model::{Entry, Kind, OutOfMemory, Text, Tree, is_index_name};
-
-// How many hits a search shows.
-const HITS: u32 = 10;
 
 /// What a line asks for after the history of a core. The entry that it asks for is taken next, and has a spelling.
 pub fn ask(alloc: Global, core: &Core, number: u64, line: &[u8]) -> Result<Asked, OutOfMemory>
@@ -196,7 +193,7 @@ fn ask_search(core: &Core, name: Text, size: u32, after: Option<Tree>) -> Asked
     ensures asked { result ≡ spec.asked_op (reverse core.now.history) (op.Search name size after) }
     ensures ready { spec.IsReady (reverse core.now.history) result }
 {
-    if size != HITS || after.is_some() {
+    if size != MAX_HITS || after.is_some() {
         return Asked::Refused(Refusal::UnsupportedYet);
     }
     ask_rows(core, name)

@@ -7,7 +7,7 @@ ghost use Rattle.tf_core.specs.Lookups.{transform_into};
 ghost use Rattle.tf_history.specs.Meaning.{row_key};
 ghost use Rattle.tf_serial.specs.Replies as spec;
 
-use crate::asked::{Done, Refusal};
+use crate::asked::{Done, MAX_HITS, Refusal};
 use std::alloc::Global;
 use std::cmp::Ordering;
 use tf_core::{Core, Transform};
@@ -15,9 +15,6 @@ use tf_group::id_text;
 use tf_model::{
     Agg, Group, Key, List, OutOfMemory, Row, Shape, State, Text, Tree, Value, print_onto,
 };
-
-// How many rows a search shows.
-const MAX_HITS: usize = 10;
 
 /// The reply to a refused line, by its number and how many entries the history has then.
 pub fn refusal(alloc: Global, line: u64, count: u64, refusal: Refusal) -> Result<Tree, OutOfMemory>
@@ -169,11 +166,8 @@ fn hits_of(alloc: Global, shape: &Shape, rows: &[Row]) -> Result<List<Tree>, Out
     ensures { IfOk result (λ hits. hits ≡ map (spec.hit shape.now) (take 10 rows.now)) }
 {
     let mut hits = List::new(alloc);
-    let shown = if rows.len() < MAX_HITS {
-        rows.len()
-    } else {
-        MAX_HITS
-    };
+    let most = MAX_HITS as usize;
+    let shown = if rows.len() < most { rows.len() } else { most };
     for row in &rows[..shown] {
         hits.push(hit(alloc, shape, row)?)?;
     }
