@@ -1,7 +1,7 @@
 -- A history that goes on, and the Pages in it.
-use Rattle.std.proofs.Common.{◌≡◌, ℕ, ◌+◌, ◌≤◌, List, [], ◌∷◌, ◌++◌, refl, sym, ap, subst, ◌∙◌, arith, append_assoc, length-append}
+use Rattle.std.proofs.Common.{◌≡◌, ℕ, ◌≤◌, List, [], ◌∷◌, ◌++◌, refl, sym, ap, subst, ◌∙◌, arith, length-append}
 use Rattle.std.specs.Prelude.{length, reverse}
-use Rattle.std.proofs.lemmas.List.{append-nil, length-reverse, reverse-append}
+use Rattle.std.proofs.lemmas.List.{length-reverse, reverse-append}
 use mathlib.Core.List.{IsPrefix}
 use Rattle.tf_model.specs.declared.entry.Entry.{Entry}
 use Rattle.tf_disk.specs.Disk.{Meaning}
@@ -12,7 +12,7 @@ use Rattle.tf_core.specs.Legal.{read}
 use Rattle.tf_store.specs.Words.{disk_of, found_of, history_of, opened_at, opened_with}
 use Rattle.tf_store.specs.declared.state.Store.{Store}
 use Rattle.tf_serial.specs.Parts.{GoesOn, IsRightEntry, Runs}
-use Rattle.tf_serial.proofs.Prefixes.{prefix_self, prefix_through, reverse_more}
+use Rattle.tf_serial.proofs.Prefixes.{prefix_self, prefix_through}
 
 length_read : (past : List Entry) → length (read past) ≡ length past
 length_read [] = refl

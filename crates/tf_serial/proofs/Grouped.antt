@@ -6,8 +6,6 @@ use Rattle.std.proofs.lemmas.List.{length-reverse}
 use mathlib.Core.List.{IsPrefix}
 use Rattle.tf_model.specs.declared.entry.Entry.{Entry}
 use Rattle.tf_history.specs.Histories.{AllRight}
-use Rattle.tf_history.specs.Legality.{IsLegal}
-use Rattle.tf_history.specs.Reading.{events}
 use Rattle.tf_history.proofs.EntriesLaw.{entries_are_grouped}
 use Rattle.tf_core.specs.Legal.{IsTakenHistory, read}
 use Rattle.tf_core.specs.Values.{values_of}

@@ -1,12 +1,12 @@
 -- A text that is a member of a tree with a spelling has a spelling itself.
-use Rattle.std.proofs.Common.{◌≡◌, ℕ, ◌<◌, ◌≤◌, ◌^◌, Bool, true, false, cond, List, [], ◌∷◌, ◌++◌, map, flat_map, length, Option, Some, None, IsUtf8, refl, sym, ap, ◌∙◌, subst, arith, append_assoc, length-append}
+use Rattle.std.proofs.Common.{◌≡◌, ℕ, ◌<◌, ◌^◌, Bool, true, false, cond, List, [], ◌∷◌, ◌++◌, map, flat_map, length, Option, Some, None, IsUtf8, refl, sym, ap, ◌∙◌, subst, arith, append_assoc, length-append}
 use Rattle.std.specs.Option.{option_and_then}
 use Rattle.std.specs.Str.{bytes_eq, is_utf8}
 use Rattle.std.proofs.lemmas.Option.{option_and_then_some}
 use Rattle.std.proofs.lemmas.Str.{IsUtf8-from_is_utf8}
 use Rattle.serde_json.specs.Data.{Data}
 use Rattle.serde_json.specs.Read.{read}
-use Rattle.tf_json.specs.Reading.{Reading, not_json, tree as read_as, reading_of, value_of}
+use Rattle.tf_json.specs.Reading.{not_json, tree as read_as, reading_of}
 use Rattle.tf_model.specs.declared.tree.Tree.{Tree, out-Tree, map-Tree, roll-out-Tree, fold-roll-Tree}
 use Rattle.tf_model.specs.declared.tree.Tree.TheOpen.{Tree-F}
 use Rattle.tf_model.specs.Print.{comma_if, escaped, quoted, paired, text_step, printed, printed_member}

@@ -1,5 +1,5 @@
 -- The entry of a next move has a spelling and is right.
-use Rattle.std.proofs.Common.{◌≡◌, ℕ, ◌+◌, ◌<◌, ◌≤◌, ◌^◌, ℤ, Bool, true, false, cond, List, [], ◌∷◌, length, Option, Some, None, refl, sym, ap, ◌∙◌, subst, arith}
+use Rattle.std.proofs.Common.{◌≡◌, ℕ, ◌<◌, ◌≤◌, ◌^◌, ℤ, Bool, true, false, cond, List, [], ◌∷◌, length, Option, Some, None, refl, sym, ap, ◌∙◌, subst, arith}
 use Rattle.std.specs.List.{AllByRecursion, find}
 use Rattle.std.specs.Option.{option_and_then, option_map}
 use Rattle.std.specs.Prelude.{IfSome, IsSomeAnd, is_none, negsuc, pos, reverse}
@@ -35,7 +35,7 @@ use Rattle.tf_history.proofs.MovesLaw.{moves_are_legal}
 use Rattle.tf_core.specs.Built.{is_built}
 use Rattle.tf_core.specs.BuiltPast.{IsBuiltPut}
 use Rattle.tf_core.specs.Legal.{IsTaken, IsTakenHistory, IsTakenPast, read, reading}
-use Rattle.tf_core.specs.Moves.{kind_of, last_ms_in, move, moved}
+use Rattle.tf_core.specs.Moves.{kind_of, last_ms_in, moved}
 use Rattle.tf_core.specs.Texts.{HasShortRows, HasTexts, IsShort, IsTextOf, IsTextRow}
 use Rattle.tf_core.specs.Values.{values_of}
 use Rattle.tf_core.proofs.AllowedKinds.{once, read_is_legal, unbounded}

@@ -18,7 +18,7 @@ use Rattle.tf_core.specs.Commanded.{commanded, takes_command}
 use Rattle.tf_serial.specs.declared.asked.Asked.{Asked}
 use Rattle.tf_serial.specs.declared.asked.Asked.TheVariants.{Skipped, Refused, Accepted, Settles, Shows}
 use Rattle.tf_serial.specs.declared.asked.Refusal.TheVariants.{NoSuchIndex}
-use Rattle.tf_serial.specs.Asking.{IsReady, asked, asked_command, asked_document, asked_entry, asked_op, asked_reading, asked_refused, asked_search, document_made, index_made, is_dest, is_plain, no_such_index, transform_made, unsupported}
+use Rattle.tf_serial.specs.Asking.{IsReady, asked, asked_document, asked_entry, asked_op, asked_reading, asked_refused, asked_search, document_made, index_made, is_dest, is_plain, no_such_index, transform_made, unsupported}
 use Rattle.tf_serial.specs.Parts.{AsksNext, IsRightEntry}
 
 abbrev AsksRight : List Entry → Asked → Type 0

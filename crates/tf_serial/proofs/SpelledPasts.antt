@@ -1,7 +1,6 @@
 -- The texts of the documents and the ids of the transforms of a history with a spelling.
-use Rattle.std.proofs.Common.{◌≡◌, ℕ, ◌+◌, ◌-◌, ◌<◌, ◌^◌, arith, Bool, true, false, cond, List, [], ◌∷◌, ◌++◌, length, Option, Some, IsUtf8, refl, sym, ap, ◌∙◌, subst}
+use Rattle.std.proofs.Common.{◌≡◌, ℕ, ◌+◌, ◌-◌, ◌<◌, ◌^◌, arith, Bool, true, false, cond, List, [], ◌∷◌, ◌++◌, length, sym, subst}
 use Rattle.std.specs.List.{AllByRecursion}
-use Rattle.std.specs.Option.{option_and_then}
 use Rattle.std.specs.Prelude.{filter, not, reverse}
 use Rattle.std.proofs.lemmas.List.{reverse-append}
 use Rattle.std.proofs.lemmas.Str.{IsUtf8-had}
@@ -11,8 +10,6 @@ use Rattle.tf_model.specs.declared.doc.Doc.{Doc}
 use Rattle.tf_model.specs.declared.entry.Entry.{Entry}
 use Rattle.tf_model.specs.declared.entry.Kind.{Kind}
 use Rattle.tf_model.specs.declared.entry.Kind.TheVariants as kind
-use Rattle.tf_model.specs.Trees as trees
-use Rattle.tf_model.specs.Trees.{member_of}
 use Rattle.tf_event.specs.Entries.{FitsEntry, FitsKind}
 use Rattle.tf_event.specs.declared.grammar.Grammar.TheVariants.{First}
 use Rattle.tf_history.specs.Catalogue.{SourceIndex, catalogue}

@@ -1,6 +1,5 @@
-use Rattle.std.proofs.Common.{◌≡◌, ◌∷◌, [], ◌++◌, List, Some, None, rules, sym, ap, subst, ◌∙◌}
+use Rattle.std.proofs.Common.{◌≡◌, ◌∷◌, [], ◌++◌, List, Some, rules, sym, ap, subst, ◌∙◌}
 use Rattle.std.specs.Prelude.{IfErr, reverse}
-use Rattle.std.proofs.lemmas.List.{reverse-reverse}
 use Rattle.tf_model.specs.declared.entry.Entry.{Entry}
 use Rattle.tf_store.specs.Words.{broken_at, history_of}
 use Rattle.tf_serial.specs.Moves.{moves, next_move}

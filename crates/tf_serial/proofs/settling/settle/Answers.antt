@@ -1,7 +1,6 @@
-use Rattle.std.proofs.Common.{◌≡◌, ◌+◌, List, Ok, Err, OnOk, Some, None, length, sym, ap, subst, ◌∙◌}
-use Rattle.std.specs.Prelude.{Result, option_map, reverse}
+use Rattle.std.proofs.Common.{◌≡◌, List, Some, None, sym, ap, ◌∙◌}
+use Rattle.std.specs.Prelude.{reverse}
 use Rattle.tf_model.specs.declared.entry.Entry.{Entry}
-use Rattle.tf_history.specs.Transforms.{PutTransform}
 use Rattle.tf_core.specs.Lookups.{newest_transform}
 use Rattle.tf_store.specs.Words.{broken_at, history_of}
 use Rattle.tf_serial.specs.Moves.{settled}
