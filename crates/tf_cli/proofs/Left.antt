@@ -13,6 +13,7 @@ use Rattle.tf_store.specs.declared.error.OpenError.{OpenError}
 use Rattle.tf_store.specs.declared.error.OpenError.TheVariants as open_error
 use Rattle.tf_store.specs.declared.error.StoreError.{StoreError}
 use Rattle.tf_store.specs.declared.error.StoreError.TheVariants as store_error
+use Rattle.tf_serial.specs.Frames.{IsOfLines}
 use Rattle.tf_serial.specs.Parts.{IsStop}
 use Rattle.tf_serial.specs.Script.{history_after, output}
 use Rattle.tf_cli.specs.Top.{AfterOpening, Finds, HoldsAll, IsLeft, IsLeftOver, IsSound, IsWritten, stopped, unopened}
@@ -53,7 +54,7 @@ module _ {D : Type 0} (m : Meaning D) (before : D) (written_before written_now :
 
   -- a run whose script stopped
   pub stops : (left failed : List Entry) (found : ℕ) (journal : Journal D) (e : StoreError) → found ≡ length first → IsPrefix first left → ∥ IsKnown m found left failed journal ∥₁ → IsSound first left
-      → IsStop first (history_after first lines) left failed (broken_at journal) (file_len journal) (m.faults before) (m.faults (disk_of journal)) e
+      → IsStop (IsOfLines (reverse first) 1 lines) first (history_after first lines) left failed (broken_at journal) (file_len journal) (m.faults before) (m.faults (disk_of journal)) e
       → IsLeftOver m before (disk_of journal) written_before written_now sink_before sink_now lines (opened_at journal) first (stopped e (length left))
   stops left failed found journal store_error.Memory count begun known sound stop = record {
     left = left;
@@ -61,8 +62,8 @@ module _ {D : Type 0} (m : Meaning D) (before : D) (written_before written_now :
     stopped = record { stops = stop.0; sound = sound; held = holds_all m first left failed found journal count begun known stop.1 };
   }
   stops left failed found journal (store_error.Disk told) count begun known sound stop = (
-    stop.3,
-    record { left = left; next = failed; stops = stop.0; sound = sound; count = refl; held = may_hold m first left failed found journal count begun known told stop.1 },
+    stop.4,
+    record { left = left; next = failed; frame = stop.1; stops = stop.0; sound = sound; count = refl; held = may_hold m first left failed found journal count begun known told stop.2 },
   )
   stops left failed found journal (store_error.Broken told) count begun known sound stop = absurd stop
   stops left failed found journal (store_error.Full told) count begun known sound stop =
@@ -70,6 +71,7 @@ module _ {D : Type 0} (m : Meaning D) (before : D) (written_before written_now :
       record {
         left = left;
         next = stop.0.next;
+        frame = stop.0.frame;
         stopped = record { stops = stop.0.part; sound = sound; held = subst (λ n. ∥ HoldsAll m (opened_at journal) first left n (disk_of journal) ∥₁) len (holds_all m first left failed found journal count begun known stop.2) };
-        passes = subst (λ n. 2 ^ 40 < n + frame_size (stop.0.next ∷ [])) len stop.0.passes;
+        passes = subst (λ n. 2 ^ 40 < n + frame_size stop.0.next) len stop.0.passes;
       }

@@ -77,7 +77,7 @@ fn lines_after_a_finished_checkpoint(rt: HostRuntime) -> Result<(), Fail> {
         ),
         (
             "{\"op\":\"search\",\"index\":\"s\"}",
-            "{\"error\":\"unsupported_yet\",\"line\":6,\"no\":8}\n",
+            "{\"error\":\"bad_name\",\"line\":6,\"name\":\"s\",\"no\":8}\n",
         ),
         (
             "{\"op\":\"index\",\"index\":\"e\",\"id\":\"2\",\"doc\":{}}",
@@ -85,11 +85,11 @@ fn lines_after_a_finished_checkpoint(rt: HostRuntime) -> Result<(), Fail> {
         ),
         (
             "{\"op\":\"index\",\"index\":\"d\",\"id\":\"2\",\"doc\":{}}",
-            "{\"error\":\"unsupported_yet\",\"line\":6,\"no\":8}\n",
+            "{\"error\":\"bad_name\",\"line\":6,\"name\":\"d\",\"no\":8}\n",
         ),
         (
             "{\"op\":\"index\",\"index\":\"s\",\"id\":\"1\",\"doc\":{\"k\":\"b\",\"v\":1}}",
-            "{\"error\":\"unsupported_yet\",\"line\":6,\"no\":8}\n",
+            "{\"error\":\"version_conflict\",\"id\":\"1\",\"line\":6,\"no\":8,\"seq\":0,\"shard\":0}\n",
         ),
         (
             "{\"op\":\"index\",\"index\":\"s\",\"id\":\"2\",\"doc\":{\"k\":\"b\",\"v\":1000000001}}",
@@ -109,7 +109,7 @@ fn lines_after_a_finished_checkpoint(rt: HostRuntime) -> Result<(), Fail> {
         ),
         (
             "{\"op\":\"settle\",\"at\":1}",
-            "{\"error\":\"unsupported_yet\",\"line\":6,\"no\":8}\n",
+            "{\"line\":6,\"no\":8,\"result\":\"settled\"}\n",
         ),
     ];
     for (line, reply) in rows {
@@ -243,5 +243,144 @@ fn a_fault_at_any_call_leaves_a_history_that_was_there(rt: HostRuntime) -> Resul
         assert_eq!(rt; out.bytes().len(), 0);
         assert!(rt; opens(alloc, &disk)?);
     }
+    Ok(())
+}
+
+// A line that creates an index, and one that writes a document into it.
+const INDEX: &str =
+    "{\"op\":\"create_index\",\"index\":\"s\",\"mappings\":{\"properties\":{\"k\":{\"type\":\"keyword\"},\"v\":{\"type\":\"long\"}}}}\n";
+
+const DOCUMENT: &str =
+    "{\"op\":\"index\",\"index\":\"s\",\"id\":\"1\",\"doc\":{\"k\":\"a\",\"v\":5}}\n";
+
+#[test]
+fn refusals_come_in_their_order(rt: HostRuntime) -> Result<(), Fail> {
+    // A third line with one fault or more, and the reply to it.
+    let rows: [(&str, &str); 15] = [
+        (
+            "{\"op\":\"index\",\"index\":\"s\",\"id\":\"9\",\"doc\":{\"v\":1.5}}",
+            "{\"error\":\"fraction\",\"line\":3,\"no\":2,\"path\":\"doc.v\"}\n",
+        ),
+        (
+            "{\"op\":\"sea",
+            "{\"error\":\"bad_json\",\"line\":3,\"no\":2}\n",
+        ),
+        (
+            "{\"op\":\"nothing\"}",
+            "{\"error\":\"unknown_op\",\"line\":3,\"no\":2}\n",
+        ),
+        (
+            "{\"op\":\"index\",\"index\":\"S\",\"doc\":{\"v\":\"x\"},\"more\":1}",
+            "{\"error\":\"missing_field\",\"field\":\"id\",\"line\":3,\"no\":2}\n",
+        ),
+        (
+            "{\"op\":\"index\",\"index\":\"S\",\"id\":\"\",\"doc\":{\"v\":\"x\"},\"more\":1}",
+            "{\"error\":\"bad_value\",\"field\":\"id\",\"line\":3,\"no\":2}\n",
+        ),
+        (
+            "{\"op\":\"index\",\"index\":\"S\",\"id\":\"1\",\"doc\":{\"v\":\"x\"}}",
+            "{\"error\":\"bad_name\",\"line\":3,\"name\":\"S\",\"no\":2}\n",
+        ),
+        (
+            "{\"op\":\"index\",\"index\":\"e\",\"id\":\"1\",\"doc\":{\"v\":\"x\"}}",
+            "{\"error\":\"no_such_index\",\"line\":3,\"name\":\"e\",\"no\":2}\n",
+        ),
+        (
+            "{\"op\":\"index\",\"index\":\"s\",\"id\":\"1\",\"doc\":{\"k\":[7,8],\"v\":\"x\"}}",
+            "{\"error\":\"doc_many_values\",\"field\":\"k\",\"line\":3,\"no\":2}\n",
+        ),
+        (
+            "{\"op\":\"index\",\"index\":\"s\",\"id\":\"1\",\"doc\":{\"k\":7,\"v\":[1,2]}}",
+            "{\"error\":\"doc_wrong_type\",\"field\":\"k\",\"line\":3,\"no\":2}\n",
+        ),
+        (
+            "{\"op\":\"index\",\"index\":\"s\",\"id\":\"1\",\"doc\":{\"k\":\"a\"}}",
+            "{\"error\":\"version_conflict\",\"id\":\"1\",\"line\":3,\"no\":2,\"seq\":0,\"shard\":0}\n",
+        ),
+        (
+            "{\"op\":\"create_index\",\"index\":\"s\",\"mappings\":{},\"shards\":17}",
+            "{\"error\":\"mapping_unknown_setting\",\"line\":3,\"no\":2,\"what\":\"properties\"}\n",
+        ),
+        (
+            "{\"op\":\"create_index\",\"index\":\"s\",\"mappings\":{\"properties\":{}},\"shards\":17}",
+            "{\"error\":\"index_exists\",\"line\":3,\"name\":\"s\",\"no\":2}\n",
+        ),
+        (
+            "{\"op\":\"create_index\",\"index\":\"b\",\"mappings\":{\"properties\":{}},\"shards\":17}",
+            "{\"error\":\"limit\",\"line\":3,\"no\":2,\"what\":\"shards\"}\n",
+        ),
+        (
+            "{\"op\":\"create_index\",\"index\":\"b\",\"mappings\":{\"properties\":{\"k\":{\"type\":\"keyword\"}}},\"stamp\":\"k\"}",
+            "{\"error\":\"mapping_bad_stamp\",\"line\":3,\"no\":2,\"what\":\"k\"}\n",
+        ),
+        (
+            "{\"op\":\"index\",\"index\":\"s\",\"id\":\"2\",\"doc\":{\"other\":{\"k\":1},\"k\":null,\"v\":[-3]}}",
+            "{\"line\":3,\"no\":3,\"result\":\"created\",\"seq\":1,\"shard\":0}\n",
+        ),
+    ];
+    for (line, reply) in rows {
+        let mut script = String::from_str(rt.alloc(), INDEX)?;
+        script.push_str(DOCUMENT)?;
+        script.push_str(line)?;
+        let (end, _, out) = run_on(
+            rt.alloc(),
+            script.as_bytes(),
+            MemDisk::new(rt.alloc(), b"", &[])?,
+        )?;
+        assert_eq!(rt; end, End::new(0, 0));
+        assert!(rt; out.bytes().ends_with(reply.as_bytes()), "{line}");
+    }
+    Ok(())
+}
+
+#[test]
+fn a_line_of_one_byte_too_many_is_refused(rt: HostRuntime) -> Result<(), Fail> {
+    let mut script = String::from_str(rt.alloc(), INDEX)?;
+    script.push_str("{")?;
+    for _ in 1..1_048_577u32 {
+        script.push_str(" ")?;
+    }
+    let (end, _, out) = run_on(
+        rt.alloc(),
+        script.as_bytes(),
+        MemDisk::new(rt.alloc(), b"", &[])?,
+    )?;
+    assert_eq!(rt; end, End::new(0, 0));
+    let reply = b"{\"bytes\":1048577,\"error\":\"line_too_long\",\"line\":2,\"no\":1}\n";
+    assert!(rt; out.bytes().ends_with(reply));
+    Ok(())
+}
+
+#[test]
+fn a_bulk_answers_document_by_document(rt: HostRuntime) -> Result<(), Fail> {
+    let mut script = String::from_str(rt.alloc(), INDEX)?;
+    script.push_str(
+        "{\"op\":\"bulk\",\"index\":\"s\",\"docs\":[{\"id\":\"7\",\"doc\":{}},{\"id\":\"7\",\"doc\":{}},{\"id\":\"8\",\"doc\":{}}]}",
+    )?;
+    let (end, _, out) = run_on(
+        rt.alloc(),
+        script.as_bytes(),
+        MemDisk::new(rt.alloc(), b"", &[])?,
+    )?;
+    assert_eq!(rt; end, End::new(0, 0));
+    let reply =
+        b"{\"from\":1,\"items\":[{\"seq\":0,\"shard\":0},{\"error\":\"version_conflict\",\"id\":\"7\",\"seq\":0,\"shard\":0},{\"seq\":1,\"shard\":0}],\"line\":2,\"no\":3}\n";
+    assert!(rt; out.bytes().ends_with(reply));
+    Ok(())
+}
+
+#[test]
+fn documents_are_stamped_and_routed(rt: HostRuntime) -> Result<(), Fail> {
+    let alloc = rt.alloc();
+    let script =
+        b"{\"op\":\"create_index\",\"index\":\"s\",\"shards\":3,\"stamp\":\"ts\",\"mappings\":{\"properties\":{\"ts\":{\"type\":\"date\"},\"x\":{\"properties\":{\"y\":{\"type\":\"boolean\"}}}}}}\n{\"op\":\"index\",\"index\":\"s\",\"id\":\"d1\",\"doc\":{\"x\":{\"y\":true}},\"at\":1000}\n{\"op\":\"index\",\"index\":\"s\",\"id\":\"d2\",\"doc\":{},\"at\":500,\"lane\":7}\n{\"op\":\"index\",\"index\":\"s\",\"id\":\"d4\",\"doc\":{\"x.y\":false}}\n{\"op\":\"index\",\"index\":\"s\",\"id\":\"d5\",\"doc\":{\"ts\":1000}}\n{\"op\":\"bulk\",\"index\":\"s\",\"docs\":[{\"id\":\"d4\",\"doc\":{}},{\"id\":\"d7\",\"doc\":{\"ts\":[]}}],\"at\":-1}\n";
+    let replies: &[u8] =
+        b"{\"line\":1,\"no\":1,\"result\":\"created\"}\n{\"line\":2,\"no\":2,\"result\":\"created\",\"seq\":0,\"shard\":2}\n{\"line\":3,\"no\":3,\"result\":\"created\",\"seq\":0,\"shard\":0}\n{\"line\":4,\"no\":4,\"result\":\"created\",\"seq\":1,\"shard\":2}\n{\"error\":\"doc_stamped\",\"field\":\"ts\",\"line\":5,\"no\":4}\n{\"from\":4,\"items\":[{\"error\":\"version_conflict\",\"id\":\"d4\",\"seq\":1,\"shard\":2},{\"seq\":2,\"shard\":2}],\"line\":6,\"no\":5}\n";
+    let (end, disk, out) = run_on(alloc, script, MemDisk::new(alloc, b"", &[])?)?;
+    assert_eq!(rt; end, End::new(0, 0));
+    assert_eq!(rt; out.bytes(), replies);
+    // What was journalled is legal, so it opens again.
+    let (end, _, _) = run_on(alloc, b"", MemDisk::new(alloc, disk.bytes(), &[])?)?;
+    assert_eq!(rt; end, End::new(0, 0));
     Ok(())
 }

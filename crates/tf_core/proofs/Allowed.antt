@@ -1,5 +1,5 @@
 -- The tests say which entries are taken.
-use Rattle.std.proofs.Common.{◌≡◌, ℕ, ◌≤◌, true, not, List, [], ◌∷◌, length, map, None, refl, sym, ap, subst, ◌∙◌, arith}
+use Rattle.std.proofs.Common.{◌≡◌, ℕ, ◌<◌, ◌≤◌, true, not, List, [], ◌∷◌, length, map, Option, Some, None, refl, sym, ap, subst, ◌∙◌, ltb-true, lt-ltb}
 use Rattle.std.specs.Prelude.{ℤ, ◌||◌, int_le, IfSome}
 use Rattle.std.specs.List.{list_any}
 use Rattle.std.specs.Str.{bytes_eq}
@@ -7,19 +7,18 @@ use Rattle.std.specs.Cmp.Derive.{both_true}
 use Rattle.tf_model.specs.declared.doc.Doc.{Doc}
 use Rattle.tf_model.specs.declared.entry.Entry.{Entry}
 use Rattle.tf_model.specs.Conditions.{IsSpan}
-use Rattle.tf_history.specs.Catalogue.{SourceIndex, catalogue}
+use Rattle.tf_history.specs.Catalogue.{SourceIndex}
 use Rattle.tf_history.specs.Legality.{IsNotBefore}
 use Rattle.tf_history.specs.LegalEntries.{MayIndex, is_free, has_date}
 use Rattle.tf_history.specs.Transforms.{PutTransform}
 use Rattle.tf_core.specs.declared.transform.Transform.{Transform}
-use Rattle.tf_core.specs.Allowing.{is_timely, is_index, is_dest, is_free_name, takes_index}
-use Rattle.tf_core.specs.Built.{is_built_index}
+use Rattle.tf_core.specs.Allowing.{is_timely, is_index, is_dest, is_free_name, is_stamp, takes_index}
 use Rattle.tf_core.specs.BuiltPast.{IsBuiltPast}
 use Rattle.tf_core.specs.Legal.{reading, read}
 use Rattle.tf_core.specs.Moves.{last_ms_in}
 use Rattle.tf_core.specs.Standing.{Stands}
 use Rattle.tf_core.specs.Summary.{put_of}
-use Rattle.tf_core.proofs.Truths.{both, not_true, int_at_most, at_most_int, nat_at_most, at_most_nat, same_nat, false_not, not_or, none_of, no_items}
+use Rattle.tf_core.proofs.Truths.{both, not_true, int_at_most, at_most_int, nat_at_most, at_most_nat, false_not, not_or}
 use Rattle.tf_core.proofs.BuiltPast.{built_past}
 
 -- ---- moments
@@ -57,7 +56,15 @@ module _ (past : List Entry) (indices : List SourceIndex) (docs : List Doc) (ts 
       ∙ (ap (λ b. not (is_index indices name || b)) (dests name ts) ∙ not_or (is_index indices name) (is_dest ts name))
 
   -- ---- an index
-  pub index_may : (i : SourceIndex) → takes_index indices ts i ≡ true → MayIndex reading past i × (is_built_index (catalogue past) i.shards i.mapping i.stamp ≡ true)
+  stamp_may : (i : SourceIndex) (stamp : Option (List ℕ)) → is_stamp i.mapping stamp ≡ true → IfSome stamp (λ field. has_date i.mapping field ≡ true)
+  stamp_may i None e = tt
+  stamp_may i (Some field) e = e
+
+  may_stamp : (i : SourceIndex) (stamp : Option (List ℕ)) → IfSome stamp (λ field. has_date i.mapping field ≡ true) → is_stamp i.mapping stamp ≡ true
+  may_stamp i None h = refl
+  may_stamp i (Some field) h = h
+
+  pub index_may : (i : SourceIndex) → takes_index indices ts i ≡ true → MayIndex reading past i
   unfolding reading
   index_may i e =
       let a = both _ _ e in
@@ -65,26 +72,23 @@ module _ (past : List Entry) (indices : List SourceIndex) (docs : List Doc) (ts 
       let c = both _ _ b.1 in
       let d = both _ _ c.1 in
       let f = both _ _ d.1 in
-      let built_form = both _ _ f.1 in
-      let one_shard = both _ _ built_form.1 in
-      let no_stamp : i.stamp ≡ None = none_of i.stamp (both _ _ one_shard.1).0 in
-      let shards : i.shards ≡ 1 = same_nat _ _ one_shard.0 in
-      let empty : indices ≡ [] = no_items indices built_form.0 in (
-        record {
-          well_formed = a.0;
-          free = free_is i.name ∙ b.0;
-          few = let none : length (catalogue past) ≡ 0 = ap length (s.indices_are ∙ empty) in omega arith;
-          shards = (omega arith, omega arith);
-          fields = nat_at_most _ _ c.0;
-          field_names = d.0;
-          stamp = subst (λ o. IfSome o (λ field. has_date i.mapping field ≡ true)) (sym no_stamp) tt;
-          slow = not_true i.quick f.0;
-        },
-        ap (λ is. is_built_index is i.shards i.mapping i.stamp) s.indices_are ∙ f.1,
-      )
+      let g = both _ _ f.1 in
+      let h = both _ _ g.1 in
+      let k = both _ _ h.1 in
+      record {
+        well_formed = a.0;
+        free = free_is i.name ∙ b.0;
+        few = subst (λ is. length is < 64) (sym s.indices_are) (ltb-true _ _ c.0);
+        shards = (nat_at_most _ _ d.0, nat_at_most _ _ f.0);
+        fields = nat_at_most _ _ g.0;
+        field_names = h.0;
+        stamp = stamp_may i i.stamp k.0;
+        slow = not_true i.quick k.1;
+      }
 
-  pub may_index : (i : SourceIndex) → MayIndex reading past i → is_built_index (catalogue past) i.shards i.mapping i.stamp ≡ true → takes_index indices ts i ≡ true
+  pub may_index : (i : SourceIndex) → MayIndex reading past i → takes_index indices ts i ≡ true
   unfolding reading
-  may_index i m form =
-      both_true m.well_formed (both_true (sym (free_is i.name) ∙ m.free) (both_true (at_most_nat _ _ m.fields) (both_true m.field_names (both_true (false_not i.quick m.slow)
-      (ap (λ is. is_built_index is i.shards i.mapping i.stamp) (sym s.indices_are) ∙ form)))))
+  may_index i m =
+      both_true m.well_formed (both_true (sym (free_is i.name) ∙ m.free) (both_true (lt-ltb _ _ (subst (λ is. length is < 64) s.indices_are m.few))
+      (both_true (at_most_nat _ _ m.shards.0) (both_true (at_most_nat _ _ m.shards.1) (both_true (at_most_nat _ _ m.fields) (both_true m.field_names
+      (both_true (may_stamp i i.stamp m.stamp) (false_not i.quick m.slow))))))))

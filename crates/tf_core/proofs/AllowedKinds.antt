@@ -1,23 +1,22 @@
 -- The tests together say which entries are taken.
-use Rattle.std.proofs.Common.{◌≡◌, ℕ, ◌^◌, ◌<◌, ◌≤◌, Bool, true, false, ◌&&◌, List, [], ◌∷◌, length, map, take, Option, Some, None, refl, sym, ap, subst, ◌∙◌, arith, length-take}
-use Rattle.std.specs.Prelude.{⊤, ℤ, ◌↔◌, nat_eq, slice_get, IsSomeAnd, IfSome, is_none, reverse, if◌then◌else◌, option_map}
-use Rattle.std.specs.List.{AllByRecursion, list_any, list_all}
+use Rattle.std.proofs.Common.{◌≡◌, ℕ, ◌<◌, ◌≤◌, Bool, true, false, ◌&&◌, List, [], ◌∷◌, length, map, take, Option, Some, None, refl, sym, ap, subst, ◌∙◌, arith}
+use Rattle.std.specs.Prelude.{⊤, ℤ, ◌↔◌, slice_get, IsSomeAnd, IfSome, is_none, reverse, if◌then◌else◌, option_map}
+use Rattle.std.specs.List.{AllByRecursion, list_all}
 use Rattle.std.specs.Cmp.Derive.{both_true}
 use Rattle.std.proofs.lemmas.Option.{same_Some}
-use Rattle.tf_model.specs.declared.config.Config.{Config}
 use Rattle.tf_model.specs.declared.doc.Doc.{Doc}
 use Rattle.tf_model.specs.declared.entry.Entry.{Entry}
 use Rattle.tf_model.specs.declared.entry.Kind.{Kind}
 use Rattle.tf_model.specs.declared.entry.Kind.TheVariants as kind
 use Rattle.tf_model.specs.declared.entry.Row.{Row}
+use Rattle.tf_model.specs.declared.tree.Tree.{Tree}
 use Rattle.tf_model.specs.declared.value.Key.{Key}
 use Rattle.tf_model.specs.Changed.{changed_above}
 use Rattle.tf_model.specs.Conditions.{AllFit, IsInRange}
 use Rattle.tf_model.specs.Counted.{counted}
 use Rattle.tf_model.specs.Rows.{sum_range}
 use Rattle.tf_model.specs.Bounds.{risen}
-use Rattle.tf_history.specs.Catalogue.{SourceIndex, catalogue}
-use Rattle.tf_history.specs.Configured.{meaning}
+use Rattle.tf_history.specs.Catalogue.{SourceIndex, catalogue, values_in}
 use Rattle.tf_history.specs.Events.{Event}
 use Rattle.tf_history.specs.Legality.{IsAllowed, IsLegal, MayPage, MayFinish, MayBegin, to_do}
 use Rattle.tf_history.specs.Legality as legality
@@ -25,24 +24,24 @@ use Rattle.tf_history.specs.LegalEntries.{IsLegalPast, FitsKind, IsRowOf, MayWri
 use Rattle.tf_history.specs.Lives.{Life, Checkpoint, life, documents, read_last, last_bound, next_bound, from_sources}
 use Rattle.tf_history.specs.Meaning.{Meaning}
 use Rattle.tf_history.specs.Reading.{deed_of}
-use Rattle.tf_history.specs.Transforms.{PutTransform, transform_of}
+use Rattle.tf_history.specs.Transforms.{PutTransform, transform_of, transforms}
 use Rattle.tf_history.proofs.EntriesLaw.{legal_entries_are_legal}
 use Rattle.tf_history.proofs.Induction.{IsKept, holds, legal_known}
 use Rattle.tf_history.proofs.MeaningLaw.{meanings_agree}
 use Rattle.tf_core.specs.declared.transform.Transform.{Transform}
-use Rattle.tf_core.specs.Allowing.{is_timely, may_do, test_at, may_start, may_stop, may_begin, may_page, may_finish, has_none_left, is_row_of}
-use Rattle.tf_core.specs.Built.{is_built, is_empty}
-use Rattle.tf_core.specs.BuiltPast.{IsBuiltDoc, IsBuiltPut}
+use Rattle.tf_core.specs.Allowing.{is_timely, may_do, test_at, may_start, may_stop, may_begin, may_page, may_finish, has_none_left, is_row_of, read_by}
+use Rattle.tf_core.specs.Built.{is_built, is_empty, lets_in}
+use Rattle.tf_core.specs.BuiltPast.{HasShard, IsBuiltPut}
 use Rattle.tf_core.specs.Legal.{reading, read, IsTaken, IsTakenPast}
 use Rattle.tf_core.specs.Standing.{Stands}
 use Rattle.tf_core.specs.Summary.{IsSummary, put_of}
 use Rattle.tf_core.specs.Table.{transform_at}
-use Rattle.tf_core.specs.Values.{values_of}
+use Rattle.tf_mapping.specs.Documents.{values_of}
 use Rattle.tf_core.proofs.Allowed.{built, timely, is_timely_for, index_may, may_index}
 use Rattle.tf_core.proofs.AllowedDocs.{document_may, may_document}
 use Rattle.tf_core.proofs.AllowedRows.{page_may, may_page_now, finish_may, may_finish_now, rows_are, are_rows, running_of}
 use Rattle.tf_core.proofs.AllowedTransforms.{life_passes, passes_life, start_is, stop_is, begin_may, may_begin_now, transform_may, may_transform, put_is, form_is}
-use Rattle.tf_core.proofs.Fitting.{IsBuiltForm, built_form, in_range, all_fit, no_range, all_take}
+use Rattle.tf_core.proofs.Fitting.{IsBuiltForm, IsReadable, built_form, in_range, all_fit, no_range, read_are_few, read_are_readable}
 use Rattle.tf_core.proofs.LastMoment.{last_is_newest}
 use Rattle.tf_core.proofs.Truths.{both, no_items}
 use Rattle.tf_core.specs.Held.{last_ms_of}
@@ -79,13 +78,6 @@ once past id l taken is =
     let legal = read_is_legal past taken in
     subst (λ o. IfSome o (BeginsOnce (read past))) is (holds (λ _ _. ⊤) BeginsOnce begins_once id (read past) legal (legal_known id (read past) legal))
 
--- the documents of the one index are those of its transform's sources
-pub sources_are : (c : Config) (indices : List SourceIndex) (docs : List Doc) → AllByRecursion (IsBuiltDoc indices) docs → from_sources (meaning (0 ∷ []) c) docs ≡ docs
-sources_are c indices [] all = refl
-sources_are c indices (d ∷ docs) all =
-    ap (λ (n : ℕ). if list_any (nat_eq n) (0 ∷ []) then d ∷ from_sources (meaning (0 ∷ []) c) docs else from_sources (meaning (0 ∷ []) c) docs) all.0.index
-    ∙ ap (λ rest. d ∷ rest) (sources_are c indices docs all.1)
-
 pub only_one : (cs : List Checkpoint) → 0 < length cs → length cs ≤ 1 → (b : Checkpoint) × (cs ≡ b ∷ [])
 only_one [] some few = absurd (omega arith)
 only_one (b ∷ []) some few = (b, refl)
@@ -94,36 +86,29 @@ only_one (b ∷ a ∷ before) some few = absurd (omega arith)
 -- ---- what is left to do at the one checkpoint
 module _ (past : List Entry) (indices : List SourceIndex) (docs : List Doc) (ts : List Transform) (s : Stands past indices docs ts) (id : List ℕ) (t : Transform) (l : Life) (there : transform_at id ts ≡ Some t)
     (is : life id (read past) ≡ Some l) (sum : IsSummary docs t l) where
-  put_built : IsBuiltPut indices (put_of t)
-  put_built = form_is past indices docs ts s id t there
-
   form : IsBuiltForm t.config
-  form = built_form t.config put_built.form
-
-  meaning_is : l.meaning ≡ meaning (0 ∷ []) t.config
-  meaning_is = sum.meaning_is ∙ ap (λ sources. meaning sources t.config) put_built.sources
+  form = built_form t.config (form_is past indices docs ts s id t there).form
 
   batch : is_none t.config.sync ≡ true
   batch = ap is_none form.batch
 
   is_batch : l.meaning.is_batch ≡ true
-  is_batch = ap (λ m. m.is_batch) meaning_is ∙ batch
+  is_batch = ap (λ m. m.is_batch) sum.meaning_is ∙ batch
 
-  pub left_is : 0 < length l.checkpoints → to_do l ≡ changed_above t.config None t.bound t.position (take t.read docs)
+  pub left_is : 0 < length l.checkpoints → to_do l ≡ changed_above t.config None t.bound t.position (read_by t docs)
   left_is some =
       let one = only_one l.checkpoints some (once past id l s.taken is is_batch).0 in
-      let reads : one.0.read ≡ take t.read docs =
-      ap read_last (sym one.1) ∙ (sum.read ∙ (ap (λ m. from_sources m (take t.read docs)) meaning_is ∙ sources_are t.config indices (take t.read docs) (all_take (IsBuiltDoc indices) t.read docs (built past indices docs ts s).each_doc))) in
+      let reads : one.0.read ≡ read_by t docs = ap read_last (sym one.1) ∙ (sum.read ∙ ap (λ m. from_sources m (take t.read docs)) sum.meaning_is) in
       let position : l.position ≡ t.position = sym sum.position in
       let bound : one.0.bound ≡ t.bound = ap last_bound (sym one.1) ∙ sym sum.bound in
-      (meanings_agree (0 ∷ []) t.config).to_do_is l one.0 [] meaning_is one.1
+      (meanings_agree t.sources t.config).to_do_is l one.0 [] sum.meaning_is one.1
       ∙ (λ i. changed_above t.config None (bound i) (position i) (reads i))
 
   pub finish_ok : (n : ℕ) → (may_finish t n && has_none_left t docs) ≡ true → MayFinish l n
   finish_ok n e =
       let parts = both (may_finish t n) (has_none_left t docs) e in
       let some : 0 < length l.checkpoints = begun_some n parts.0 in
-      finish_may docs t l sum n parts.0 (left_is some ∙ no_items (changed_above t.config None t.bound t.position (take t.read docs)) parts.1)
+      finish_may docs t l sum n parts.0 (left_is some ∙ no_items (changed_above t.config None t.bound t.position (read_by t docs)) parts.1)
     where
       begun_some : (n : ℕ) → may_finish t n ≡ true → 0 < length l.checkpoints
       begun_some n e = let r = running_of docs t l sum n e in omega (arith, r.0, r.1)
@@ -180,16 +165,21 @@ module _ (past : List Entry) (indices : List SourceIndex) (docs : List Doc) (ts 
       may_page_now docs t l sum n rows m (are_rows t.config.shape (read_last l.checkpoints) rows (built_form t.config (form_is past indices docs ts s id t there).form).shape_built here))
       may
 
-  pub passes : (k : Kind) → may_do indices docs ts k ≡ true → Passes k
+  -- what the transforms let in, by what is kept
+  lets_same : (index : ℕ) (tree : Tree)
+      → list_all (lets_in (documents (read past)) index (values_in values_of (slice_get (catalogue past) index) tree)) (transforms past) ≡ list_all (lets_in docs index (values_in values_of (slice_get indices index) tree)) (map put_of ts)
+  lets_same index tree = λ i. list_all (lets_in (s.docs_are i) index (values_in values_of (slice_get (s.indices_are i) index) tree)) (s.transforms_are i)
+
+  pub passes : (k : Kind) → may_do indices docs ts moment k ≡ true → Passes k
   unfolding reading
   passes (kind.Index name shards mapping stamp quick) e =
-      let i = index_may past indices docs ts s (record { name = name; shards = shards; mapping = mapping; stamp = stamp; quick = quick }) e in record { fits = i.0; allowed = tt; built_form = i.1 }
+      record { fits = index_may past indices docs ts s (record { name = name; shards = shards; mapping = mapping; stamp = stamp; quick = quick }) e; allowed = tt; built_form = refl }
   passes (kind.Write index shard seq id tree) e =
-      let may = document_may indices docs (map put_of ts) moment index shard seq id tree (built past indices docs ts s) e in
+      let may = document_may docs (map put_of ts) moment index shard seq id tree (slice_get indices index) e in
       record {
-        fits = subst (λ (p : List SourceIndex × List Doc). IsSomeAnd (slice_get p.0 index) (λ i. MayWrite reading p.1 moment i index shard seq id tree)) (λ i. (sym s.indices_are i, sym s.docs_are i)) may;
+        fits = subst (λ (p : List SourceIndex × List Doc). IsSomeAnd (slice_get p.0 index) (λ i. MayWrite reading p.1 moment i index shard seq id tree)) (λ i. (sym s.indices_are i, sym s.docs_are i)) may.0;
         allowed = tt;
-        built_form = refl;
+        built_form = lets_same index tree ∙ may.1;
       }
   passes (kind.Put id config) e = let m = transform_may past indices docs ts s id config e in record { fits = m.0; allowed = m.1; built_form = m.2 }
   passes (kind.Start id) e = record { fits = tt; allowed = from_test id may_start (λ l. legality.may_start l ≡ true) (λ t l there is sum pass. sym (start_is docs t l sum) ∙ pass) e; built_form = refl }
@@ -211,12 +201,13 @@ module _ (past : List Entry) (indices : List SourceIndex) (docs : List Doc) (ts 
   passes (kind.Schedule id) e = absurd (let z : false ≡ true = e in cc)
   passes (kind.Fail id n key name value) e = absurd (let z : false ≡ true = e in cc)
 
-  pub does : (k : Kind) → Passes k → may_do indices docs ts k ≡ true
+  pub does : (k : Kind) → Passes k → may_do indices docs ts moment k ≡ true
   unfolding reading
-  does (kind.Index name shards mapping stamp quick) p = may_index past indices docs ts s (record { name = name; shards = shards; mapping = mapping; stamp = stamp; quick = quick }) p.fits p.built_form
+  does (kind.Index name shards mapping stamp quick) p = may_index past indices docs ts s (record { name = name; shards = shards; mapping = mapping; stamp = stamp; quick = quick }) p.fits
   does (kind.Write index shard seq id tree) p =
-      may_document indices docs (map put_of ts) moment index shard seq id tree (built past indices docs ts s)
+      may_document docs (map put_of ts) moment index shard seq id tree (slice_get indices index)
       (subst (λ (q : List SourceIndex × List Doc). IsSomeAnd (slice_get q.0 index) (λ i. MayWrite reading q.1 moment i index shard seq id tree)) (λ i. (s.indices_are i, s.docs_are i)) p.fits)
+      (sym (lets_same index tree) ∙ p.built_form)
   does (kind.Put id config) p = may_transform past indices docs ts s id config p.fits p.built_form
   does (kind.Start id) p = to_test id may_start (λ l. legality.may_start l ≡ true) (λ t l there is sum m. start_is docs t l sum ∙ m) p.allowed
   does (kind.Stopped id) p = to_test id may_stop (λ l. legality.may_stop l.state l ≡ true) (λ t l there is sum m. stop_is docs t l sum ∙ m) p.allowed
@@ -230,12 +221,12 @@ module _ (past : List Entry) (indices : List SourceIndex) (docs : List Doc) (ts 
   does (kind.Schedule id) p = absurd (let z : false ≡ true = p.built_form in cc)
   does (kind.Fail id n key name value) p = absurd (let z : false ≡ true = p.built_form in cc)
 
-  pub taken_is : (e : Entry) → e.at_ms ≡ moment → (is_timely (last_ms_in past) e.at_ms e.actor && may_do indices docs ts e.kind) ≡ true → IsTaken past e
+  pub taken_is : (e : Entry) → e.at_ms ≡ moment → (is_timely (last_ms_in past) e.at_ms e.actor && may_do indices docs ts e.at_ms e.kind) ≡ true → IsTaken past e
   unfolding reading
   taken_is e at test =
-      let parts = both (is_timely (last_ms_in past) e.at_ms e.actor) (may_do indices docs ts e.kind) test in
+      let parts = both (is_timely (last_ms_in past) e.at_ms e.actor) (may_do indices docs ts e.at_ms e.kind) test in
       let time = timely past e.at_ms e.actor parts.0 in
-      let p = passes e.kind parts.1 in
+      let p = passes e.kind (subst (λ m. may_do indices docs ts m e.kind ≡ true) at parts.1) in
       record {
         legal = record {
           moment = time.0;
@@ -247,44 +238,49 @@ module _ (past : List Entry) (indices : List SourceIndex) (docs : List Doc) (ts 
         built = p.built_form;
       }
 
-  pub is_taken_by : (e : Entry) → e.at_ms ≡ moment → IsTaken past e → (is_timely (last_ms_in past) e.at_ms e.actor && may_do indices docs ts e.kind) ≡ true
+  pub is_taken_by : (e : Entry) → e.at_ms ≡ moment → IsTaken past e → (is_timely (last_ms_in past) e.at_ms e.actor && may_do indices docs ts e.at_ms e.kind) ≡ true
   unfolding reading
   is_taken_by e at t =
       both_true (is_timely_for past e.at_ms e.actor t.legal.moment t.legal.later t.legal.actor)
+      (subst (λ m. may_do indices docs ts m e.kind ≡ true) (sym at)
       (does e.kind (record {
         fits = subst (λ m. FitsKind reading past m e.kind) at t.legal.fits;
         allowed = subst (λ m. IsAllowed m (deed_of values_of (catalogue past) e.kind) (read past)) at t.legal.allowed;
         built_form = t.built;
-      }))
+      })))
 
 -- an entry is taken exactly where the tests pass
 pub taken_exactly : (past : List Entry) (indices : List SourceIndex) (docs : List Doc) (ts : List Transform) (e : Entry) → Stands past indices docs ts
-    → ((is_timely (last_ms_in past) e.at_ms e.actor && may_do indices docs ts e.kind) ≡ true) ↔ IsTaken past e
+    → ((is_timely (last_ms_in past) e.at_ms e.actor && may_do indices docs ts e.at_ms e.kind) ≡ true) ↔ IsTaken past e
 taken_exactly past indices docs ts e s = (taken_is past indices docs ts s e.at_ms e refl, is_taken_by past indices docs ts s e.at_ms e refl)
 
 -- the configuration and the documents of a transform that is there are in range
 module _ (past : List Entry) (indices : List SourceIndex) (docs : List Doc) (ts : List Transform) (s : Stands past indices docs ts) where
-  pub few_docs : length docs ≤ 2 ^ 31
-  few_docs = (built past indices docs ts s).few_docs
+  pub have_shards : AllByRecursion HasShard indices
+  have_shards = (built past indices docs ts s).each_index
 
   module _ (id : List ℕ) (t : Transform) (there : transform_at id ts ≡ Some t) where
-    there_is : IsBuiltPut indices (put_of t)
+    there_is : IsBuiltPut indices docs (put_of t)
     there_is = form_is past indices docs ts s id t there
 
     pub config_in_range : IsInRange t.config
     config_in_range = in_range t.config (built_form t.config there_is.form)
 
-    pub docs_fit : AllFit t.config (take t.read docs)
-    docs_fit = all_fit t.config (built_form t.config there_is.form) indices there_is.fits (take t.read docs) (all_take (IsBuiltDoc indices) t.read docs (built past indices docs ts s).each_doc)
+    readable : AllByRecursion (IsReadable t.config.shape) (read_by t docs)
+    readable = read_are_readable t.config.shape t.sources t.read docs there_is.reads
 
-    pub no_wide_sum : (k : Key) → sum_range t.config k (counted t.config None (take t.read docs)) ≡ None
-    no_wide_sum k =
-        no_range t.config (built_form t.config there_is.form) indices there_is.fits (take t.read docs) (all_take (IsBuiltDoc indices) t.read docs (built past indices docs ts s).each_doc) k
-        (omega (arith, length-take t.read docs, few_docs))
+    pub docs_fit : AllFit t.config (read_by t docs)
+    docs_fit = all_fit t.config (built_form t.config there_is.form) (read_by t docs) readable
+
+    pub few_read : length (read_by t docs) ≤ 500
+    few_read = read_are_few t.config.shape t.sources t.read docs there_is.reads
+
+    pub no_wide_sum : (k : Key) → sum_range t.config k (counted t.config None (read_by t docs)) ≡ None
+    no_wide_sum k = no_range t.config (built_form t.config there_is.form) (read_by t docs) readable k few_read
 
 -- the same by the answers of the tests
 pub taken_by : (history : List Entry) (indices : List SourceIndex) (docs : List Doc) (ts : List Transform) (e : Entry) (is_time may : Bool) → Stands (reverse history) indices docs ts
-    → is_time ≡ is_timely (last_ms_of history) e.at_ms e.actor → may ≡ may_do indices docs ts e.kind → ((is_time && may) ≡ true) ↔ IsTaken (reverse history) e
+    → is_time ≡ is_timely (last_ms_of history) e.at_ms e.actor → may ≡ may_do indices docs ts e.at_ms e.kind → ((is_time && may) ≡ true) ↔ IsTaken (reverse history) e
 taken_by history indices docs ts e is_time may s time does =
-    subst (λ b. (b ≡ true) ↔ IsTaken (reverse history) e) ((λ i. is_timely (last_is_newest history i) e.at_ms e.actor && may_do indices docs ts e.kind) ∙ (λ i. sym time i && sym does i))
+    subst (λ b. (b ≡ true) ↔ IsTaken (reverse history) e) ((λ i. is_timely (last_is_newest history i) e.at_ms e.actor && may_do indices docs ts e.at_ms e.kind) ∙ (λ i. sym time i && sym does i))
     (taken_exactly (reverse history) indices docs ts e s)

@@ -7,18 +7,19 @@ use Rattle.std.proofs.lemmas.Option.{same_Some}
 use Rattle.tf_model.specs.declared.config.Config.{Config}
 use Rattle.tf_model.specs.declared.doc.Doc.{Doc}
 use Rattle.tf_model.specs.declared.entry.Entry.{Entry}
+use Rattle.tf_model.specs.declared.entry.Kind.TheVariants as kind
 use Rattle.tf_model.specs.declared.task.State.{State}
 use Rattle.tf_model.specs.declared.task.State.TheVariants as state
 use Rattle.tf_model.specs.Bounds.{risen}
-use Rattle.tf_history.specs.Catalogue.{SourceIndex, catalogue}
+use Rattle.tf_history.specs.Catalogue.{SourceIndex, catalogue, source_numbers}
 use Rattle.tf_history.specs.Legality as legality
 use Rattle.tf_history.specs.Legality.{MayBegin, is_started, is_stopped}
 use Rattle.tf_history.specs.LegalEntries.{MayPut}
-use Rattle.tf_history.specs.Lives.{Life, Checkpoint, life, is_same, last_bound}
+use Rattle.tf_history.specs.Lives.{Life, Checkpoint, documents, life, is_same, last_bound}
 use Rattle.tf_history.specs.Transforms.{PutTransform, transforms, transform_of}
 use Rattle.tf_core.specs.declared.transform.Transform.{Transform}
-use Rattle.tf_core.specs.Allowing.{takes_transform, is_over, may_start, may_stop, may_stop_in, may_begin, test_at}
-use Rattle.tf_core.specs.Built.{is_built_config, fits_first, is_empty}
+use Rattle.tf_core.specs.Allowing.{is_well_formed, takes_transform, is_over, may_start, may_stop, may_stop_in, may_begin, test_at}
+use Rattle.tf_core.specs.Built.{are_readable, fits_indices, is_built, is_built_config, is_empty}
 use Rattle.tf_core.specs.BuiltPast.{IsBuiltPut}
 use Rattle.tf_core.specs.Legal.{reading, read}
 use Rattle.tf_core.specs.Standing.{Stands}
@@ -123,10 +124,11 @@ module _ (docs : List Doc) (t : Transform) (l : Life) (s : IsSummary docs t l) w
 
 -- ---- putting
 module _ (past : List Entry) (indices : List SourceIndex) (docs : List Doc) (ts : List Transform) (s : Stands past indices docs ts) where
-  pub transform_may : (id : List ℕ) (config : Config) → takes_transform indices ts id config ≡ true → MayPut reading past id config × (life id (read past) ≡ None) × (is_empty (transforms past) ≡ true)
+  pub transform_may : (id : List ℕ) (config : Config) → takes_transform indices docs ts id config ≡ true → MayPut reading past id config × (life id (read past) ≡ None) × (is_built past (kind.Put id config) ≡ true)
   unfolding reading
   transform_may id config e =
-      let a = both _ _ e in
+      let parts = both (is_well_formed indices ts id config) (are_readable config.shape (source_numbers indices config.sources) docs) e in
+      let a = both _ _ parts.0 in
       let b = both _ _ a.1 in
       let c = both _ _ b.1 in
       let d = both _ _ c.1 in
@@ -135,23 +137,26 @@ module _ (past : List Entry) (indices : List SourceIndex) (docs : List Doc) (ts 
         record {
           well_formed = a.0;
           few = let zero_puts : length (transforms past) ≡ 0 = ap length none in omega arith;
-          checked = both_true b.0 (ap (fits_first config) s.indices_are ∙ c.0);
+          checked = both_true b.0 (ap (fits_indices config) s.indices_are ∙ c.0);
           dest_free = free_is past indices docs ts s config.dest ∙ d.0;
         },
         no_life docs (life id (read past)) (subst (λ us. Tells docs (transform_at id us) (life id (read past))) empty (s.lives id)),
-        ap is_empty none,
+        both_true (ap is_empty none) ((λ i. are_readable config.shape (source_numbers (s.indices_are i) config.sources) (s.docs_are i)) ∙ parts.1),
       )
 
   no_puts : (ts : List Transform) → is_empty (map put_of ts) ≡ true → is_empty ts ≡ true
   no_puts [] e = refl
   no_puts (t ∷ ts) e = e
 
-  pub may_transform : (id : List ℕ) (config : Config) → MayPut reading past id config → is_empty (transforms past) ≡ true → takes_transform indices ts id config ≡ true
+  pub may_transform : (id : List ℕ) (config : Config) → MayPut reading past id config → is_built past (kind.Put id config) ≡ true → takes_transform indices docs ts id config ≡ true
   unfolding reading
-  may_transform id config m first =
-      let checked = both (is_built_config config) (fits_first config (catalogue past)) m.checked in
-      both_true m.well_formed (both_true checked.0 (both_true (ap (fits_first config) (sym s.indices_are) ∙ checked.1) (both_true (sym (free_is past indices docs ts s config.dest) ∙ m.dest_free)
-      (no_puts ts (ap is_empty (sym s.transforms_are) ∙ first)))))
+  may_transform id config m form =
+      let checked = both (is_built_config config) (fits_indices config (catalogue past)) m.checked in
+      let asked = both (is_empty (transforms past)) (are_readable config.shape (source_numbers (catalogue past) config.sources) (documents (read past))) form in
+      both_true
+      (both_true m.well_formed (both_true checked.0 (both_true (ap (fits_indices config) (sym s.indices_are) ∙ checked.1) (both_true (sym (free_is past indices docs ts s config.dest) ∙ m.dest_free)
+      (no_puts ts (ap is_empty (sym s.transforms_are) ∙ asked.0))))))
+      ((λ i. are_readable config.shape (source_numbers (sym s.indices_are i) config.sources) (sym s.docs_are i)) ∙ asked.1)
 
   -- ---- the transform that is there
   found_put : (id : List ℕ) (ts : List Transform) → find (λ (p : PutTransform). is_same id p.id) (map put_of ts) ≡ option_map put_of (transform_at id ts)
@@ -174,6 +179,6 @@ module _ (past : List Entry) (indices : List SourceIndex) (docs : List Doc) (ts 
       by true same f rest = subst (λ v. P (put_of v)) (same_Some u t f) all.0
       by false same f rest = rest f
 
-  -- a transform that is there is a batch pivot over the one index
-  pub form_is : (id : List ℕ) (t : Transform) → transform_at id ts ≡ Some t → IsBuiltPut indices (put_of t)
-  form_is id t e = all_found (IsBuiltPut indices) id t ts (built past indices docs ts s).each_put e
+  -- a transform that is there is a batch pivot over indices that are there
+  pub form_is : (id : List ℕ) (t : Transform) → transform_at id ts ≡ Some t → IsBuiltPut indices docs (put_of t)
+  form_is id t e = all_found (IsBuiltPut indices docs) id t ts (built past indices docs ts s).each_put e

@@ -1,13 +1,17 @@
 -- The entries of the small history are taken.
-use Rattle.std.proofs.Common.{◌≡◌, ◌&&◌, arith, refl, ap, [], ◌∷◌, Some, true}
-use Rattle.std.specs.Prelude.{codes}
+use Rattle.std.proofs.Common.{◌≡◌, ℕ, ◌%◌, ◌&&◌, List, arith, refl, sym, ap, subst, [], ◌∷◌, None, Some, true}
+use Rattle.std.specs.Prelude.{ℤ, pos, codes, is_some}
 use Rattle.std.proofs.lemmas.Int.{ints}
 use Rattle.tf_model.specs.Names.{is_index_name}
 use Rattle.tf_model.specs.Trees.{members_in, members_level}
 use Rattle.tf_model.specs.declared.tree.Tree.TheVariants as tree
+use Rattle.tf_model.specs.declared.entry.Entry.{Entry}
 use Rattle.tf_core.specs.Example.{example, example_index, example_write}
 use Rattle.tf_core.specs.Legal.{AreTaken, IsTaken, reading}
-use Rattle.tf_core.specs.Values.{all_among, takes}
+use Rattle.tf_mapping.specs.Documents as Documents
+use Rattle.tf_mapping.specs.Documents.{reads}
+use Rattle.tf_mapping.specs.Routes.{hash_of, shard_of}
+use Rattle.tf_mapping.specs.Written.{is_written}
 
 index_taken : IsTaken [] example_index
 unfolding reading is_index_name
@@ -35,8 +39,16 @@ no_members : members_in (tree.Obj []) ≡ Some []
 unfolding members_in
 no_members = ap members_level (tree.outs-Obj [])
 
-empty_read : takes (record { fields = [] }) (tree.Obj []) ≡ true
-empty_read = ap (λ o. all_among [] o && true) no_members
+empty_read : (at_ms : ℤ) → is_written (record { fields = [] }) None at_ms (tree.Obj []) ≡ true
+unfolding is_written reads Documents.reading
+empty_read at_ms = ap (λ o. is_some o && (true && true)) no_members
+
+routed : (id : List ℕ) → shard_of id 1 ≡ 0
+unfolding shard_of
+routed id = one_part (hash_of id)
+  where
+    one_part : (n : ℕ) → n % 1 ≡ 0
+    one_part n = omega arith
 
 first_taken : IsTaken (example_index ∷ []) (example_write 0 (codes "1"))
 unfolding reading
@@ -45,7 +57,7 @@ first_taken = record {
     moment = (omega (arith, ints), omega (arith, ints));
     later = omega (arith, ints);
     actor = omega arith;
-    fits = record { routed = refl; next = refl; room = omega arith; id_size = (omega arith, omega arith); id_new = refl; read = empty_read };
+    fits = record { routed = sym (routed (codes "1")); next = refl; room = omega arith; id_size = (omega arith, omega arith); id_new = refl; read = empty_read (pos 7) };
     allowed = tt;
   };
   built = refl;
@@ -58,7 +70,7 @@ second_taken = record {
     moment = (omega (arith, ints), omega (arith, ints));
     later = omega (arith, ints);
     actor = omega arith;
-    fits = record { routed = refl; next = refl; room = omega arith; id_size = (omega arith, omega arith); id_new = refl; read = empty_read };
+    fits = record { routed = sym (routed (codes "2")); next = refl; room = omega arith; id_size = (omega arith, omega arith); id_new = refl; read = empty_read (pos 7) };
     allowed = tt;
   };
   built = refl;
@@ -66,3 +78,7 @@ second_taken = record {
 
 pub example_taken : AreTaken [] example
 example_taken = (index_taken, (first_taken, (second_taken, tt)))
+
+-- one entry that is taken
+pub one_taken : (past : List Entry) (e : Entry) (entries : List Entry) → entries ≡ e ∷ [] → IsTaken past e → AreTaken past entries
+one_taken past e entries is taken = subst (AreTaken past) (sym is) (taken, tt)

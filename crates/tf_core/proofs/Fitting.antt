@@ -1,12 +1,12 @@
--- The documents of the index fit its transform, so each key of its checkpoint has a row.
-use Rattle.std.proofs.Common.{◌≡◌, ℕ, zero, suc, ◌≤◌, ◌^◌, Bool, true, false, ◌&&◌, not, List, [], ◌∷◌, length, map, filter, take, Option, Some, None, refl, sym, ap, subst, ◌∙◌, arith}
-use Rattle.std.specs.Prelude.{ℤ, pos, negsuc, ◌≤ℤ◌, ◌==◌, if◌then◌else◌, All, IfSome, is_none}
+-- The documents of a transform fit it, so each key of its checkpoint has a row.
+use Rattle.std.proofs.Common.{◌≡◌, ℕ, zero, suc, ◌≤◌, ◌^◌, Bool, true, false, ◌&&◌, not, List, [], ◌∷◌, length, filter, take, Option, Some, None, refl, sym, ap, subst, ◌∙◌, arith}
+use Rattle.std.specs.Prelude.{ℤ, pos, negsuc, ◌≤ℤ◌, ◌==◌, ◌||◌, nat_le, count_by, if◌then◌else◌, All, IfSome, is_none}
 use Rattle.std.specs.Ordering.{int_eq}
 use Rattle.std.specs.Option.{option_map, option_and_then}
 use Rattle.std.specs.List.{AllByRecursion, list_all}
-use Rattle.std.specs.Str.{bytes_eq}
 use Rattle.std.proofs.lemmas.List.Elements.{All-from_recursion}
 use Rattle.std.proofs.lemmas.Int.{ints}
+use Rattle.std.proofs.lemmas.List.Sums.{length-filter}
 use Rattle.tf_model.specs.declared.doc.Doc.{Doc}
 use Rattle.tf_model.specs.declared.config.Agg.{Agg}
 use Rattle.tf_model.specs.declared.config.AggKind.{AggKind}
@@ -28,12 +28,9 @@ use Rattle.tf_model.specs.Keys.{groups_of, has_key}
 use Rattle.tf_model.specs.Names.{is_index_name}
 use Rattle.tf_model.specs.Rows.{aggs_of, sum_range, with_key, first_wide, or_else, sum_range_at, field_values, total}
 use Rattle.tf_model.specs.Values.{value_of, value_at}
-use Rattle.tf_history.specs.Catalogue.{SourceIndex}
-use Rattle.tf_core.specs.Built.{is_built_config, is_built_shape, is_terms, is_sum, fits_first, fits_index, groups_keywords, is_long, type_at, has_defaults, is_match_all, has_one, is_empty}
-use Rattle.tf_core.specs.BuiltPast.{IsBuiltDoc}
-use Rattle.tf_core.specs.Values.{field_value, is_small_value, has_only}
-use Rattle.tf_core.proofs.Sums.{HasSmall, IsSmallNumber, value_is_small, total_bound, all_filter, few_filter, in_i64}
-use Rattle.tf_core.proofs.Truths.{both, none_of, not_true, same_nat}
+use Rattle.tf_core.specs.Built.{are_readable, has_defaults, has_one, have_small, have_texts, is_among, is_built_config, is_built_shape, is_empty, is_match_all, is_readable, is_readable_in, is_small, is_sum, is_terms, is_text}
+use Rattle.tf_core.proofs.Sums.{HasSmall, IsSmallNumber, small_number, total_bound, all_filter, few_filter, in_i64}
+use Rattle.tf_core.proofs.Truths.{both, nat_at_most, none_of, not_true, same_nat}
 
 -- ---- the form of a configuration
 terms_is : (k : GroupKind) → is_terms k ≡ true → k ≡ Terms
@@ -136,32 +133,64 @@ all_take P zero docs all = tt
 all_take P (suc n) [] all = tt
 all_take P (suc n) (d ∷ docs) all = (all.0, all_take P n docs all.1)
 
--- the sum's field is a long of the first index
-sum_is_long : (c : Config) (f : IsBuiltForm c) (i : SourceIndex) → fits_index c i ≡ true → is_long (type_at i.mapping.fields f.pivot.agg.field) ≡ true
-sum_is_long c f i fits =
-    let longs : Shape → Bool = λ s. list_all (λ (a : Agg). is_long (type_at i.mapping.fields a.field)) (aggs_of s) in
-    let named = both (list_all (λ source. bytes_eq source i.name) c.sources) (not (bytes_eq c.dest i.name) && (groups_keywords c.shape i.mapping.fields && longs c.shape)) fits in
-    let apart = both (not (bytes_eq c.dest i.name)) (groups_keywords c.shape i.mapping.fields && longs c.shape) named.1 in
-    let d = both (groups_keywords c.shape i.mapping.fields) (longs c.shape) apart.1 in
-    let sums : longs (Pivot (f.pivot.group ∷ []) (f.pivot.agg ∷ [])) ≡ true = ap longs (sym f.pivot.shape) ∙ d.1 in
-    (both (is_long (type_at i.mapping.fields f.pivot.agg.field)) true sums).0
+-- a document that the transform can read
+abbrev pub IsReadable : Shape → Doc → Type 0
+IsReadable shape d = is_readable shape d.values ≡ true
 
-small_doc : (c : Config) (f : IsBuiltForm c) (indices : List SourceIndex) (d : Doc) → fits_first c indices ≡ true → IsBuiltDoc indices d → HasSmall f.pivot.agg.field d
+small_doc : (c : Config) (f : IsBuiltForm c) (d : Doc) → IsReadable c.shape d → HasSmall f.pivot.agg.field d
 unfolding value_of
-small_doc c f [] d fits b = absurd b.taken
-small_doc c f (i ∷ indices) d fits b =
-    subst (λ vs. IsSmallNumber (value_at vs f.pivot.agg.field)) (sym b.taken.0)
-    (value_is_small i.mapping.fields d.tree f.pivot.agg.field (both (has_only (map (λ field. field.0) i.mapping.fields) d.tree) (list_all (λ g. is_small_value (field_value d.tree g)) i.mapping.fields) b.taken.1).1 (sum_is_long c f i fits))
+small_doc c f d readable =
+    let sums = both (have_texts c.shape d.values) (have_small c.shape d.values) readable in
+    let small : have_small (Pivot (f.pivot.group ∷ []) (f.pivot.agg ∷ [])) d.values ≡ true = ap (λ s. have_small s d.values) (sym f.pivot.shape) ∙ sums.1 in
+    small_number (value_at d.values f.pivot.agg.field) (both (is_small (value_at d.values f.pivot.agg.field)) true small).0
 
-module _ (c : Config) (f : IsBuiltForm c) (indices : List SourceIndex) (fits : fits_first c indices ≡ true) (docs : List Doc) (taken : AllByRecursion (IsBuiltDoc indices) docs) where
+pub text_doc : (c : Config) (f : IsBuiltForm c) (d : Doc) → IsReadable c.shape d → is_text (value_of d f.pivot.group.field) ≡ true
+unfolding value_of
+text_doc c f d readable =
+    let texts = both (have_texts c.shape d.values) (have_small c.shape d.values) readable in
+    let text : have_texts (Pivot (f.pivot.group ∷ []) (f.pivot.agg ∷ [])) d.values ≡ true = ap (λ s. have_texts s d.values) (sym f.pivot.shape) ∙ texts.0 in
+    (both (is_text (value_at d.values f.pivot.group.field)) true text).0
+
+-- ---- the documents of a transform's sources
+readable_first : (shape : Shape) (sources : List ℕ) (n : ℕ) (docs : List Doc) → list_all (is_readable_in shape sources) docs ≡ true → AllByRecursion (IsReadable shape) (filter (is_among sources) (take n docs))
+readable_first shape sources zero docs e = tt
+readable_first shape sources (suc n) [] e = tt
+readable_first shape sources (suc n) (d ∷ docs) e =
+    let parts = both (is_readable_in shape sources d) (list_all (is_readable_in shape sources) docs) e in
+    by (is_among sources d) parts.0 (readable_first shape sources n docs parts.1)
+  where
+    by : (b : Bool) → (not b || is_readable shape d.values) ≡ true → AllByRecursion (IsReadable shape) (filter (is_among sources) (take n docs))
+        → AllByRecursion (IsReadable shape) (if b then d ∷ filter (is_among sources) (take n docs) else filter (is_among sources) (take n docs))
+    by true readable rest = (readable, rest)
+    by false readable rest = rest
+
+-- those that the newest checkpoint reads can be read
+pub read_are_readable : (shape : Shape) (sources : List ℕ) (n : ℕ) (docs : List Doc) → are_readable shape sources docs ≡ true → AllByRecursion (IsReadable shape) (filter (is_among sources) (take n docs))
+read_are_readable shape sources n docs e = readable_first shape sources n docs (both (nat_le (count_by (is_among sources) docs) 500) (list_all (is_readable_in shape sources) docs) e).1
+
+few_first : (p : Doc → Bool) (n : ℕ) (docs : List Doc) → length (filter p (take n docs)) ≤ length (filter p docs)
+few_first p zero docs = omega arith
+few_first p (suc n) [] = omega arith
+few_first p (suc n) (d ∷ docs) = elim (p d) as (λ b. length (if b then d ∷ filter p (take n docs) else filter p (take n docs)) ≤ length (if b then d ∷ filter p docs else filter p docs)) [
+  | true ↦ let rest = few_first p n docs in omega arith
+  | false ↦ few_first p n docs
+]
+
+-- and are at most 500
+pub read_are_few : (shape : Shape) (sources : List ℕ) (n : ℕ) (docs : List Doc) → are_readable shape sources docs ≡ true → length (filter (is_among sources) (take n docs)) ≤ 500
+read_are_few shape sources n docs e =
+    let few : count_by (is_among sources) docs ≤ 500 = nat_at_most _ _ (both (nat_le (count_by (is_among sources) docs) 500) (list_all (is_readable_in shape sources) docs) e).0 in
+    omega (arith, few_first (is_among sources) n docs, length-filter (is_among sources) docs, few)
+
+module _ (c : Config) (f : IsBuiltForm c) (docs : List Doc) (readable : AllByRecursion (IsReadable c.shape) docs) where
   all_small : AllByRecursion (HasSmall f.pivot.agg.field) docs
-  all_small = all_map (IsBuiltDoc indices) (HasSmall f.pivot.agg.field) (λ d here. small_doc c f indices d fits here) docs taken
+  all_small = all_map (IsReadable c.shape) (HasSmall f.pivot.agg.field) (λ d here. small_doc c f d here) docs readable
 
   pub all_fit : AllFit c docs
   all_fit = All-from_recursion (Fits c) docs (all_map (HasSmall f.pivot.agg.field) (Fits c) (λ d small. fits_doc c f d small) docs all_small)
 
   -- no sum leaves i64
-  pub no_range : (k : Key) → length docs ≤ 2 ^ 31 → sum_range c k (counted c None docs) ≡ None
+  pub no_range : (k : Key) → length docs ≤ 500 → sum_range c k (counted c None docs) ≡ None
   unfolding sum_range with_key counted
   no_range k few =
       let field = f.pivot.agg.field in

@@ -27,7 +27,7 @@ use Rattle.tf_core.specs.Lookups.{head_of, into_at, is_into, some_has}
 use Rattle.tf_core.specs.Standing.{Stands}
 use Rattle.tf_core.specs.Summary.{put_of}
 use Rattle.tf_core.specs.Table.{Tells, transform_at}
-use Rattle.tf_core.specs.Values.{values_of}
+use Rattle.tf_mapping.specs.Documents.{values_of}
 use Rattle.tf_core.proofs.Numbers.{position_cons}
 use Rattle.tf_core.proofs.Tables.{same_itself}
 use Rattle.tf_core.proofs.Taken.{is_allowed}

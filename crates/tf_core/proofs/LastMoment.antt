@@ -1,9 +1,11 @@
 -- The moment of the last entry.
 use Rattle.std.proofs.Common.{◌≡◌, ℕ, zero, suc, ◌-◌, List, [], ◌∷◌, length, map, Option, Some, None, arith, refl, ap, ◌∙◌, sym}
-use Rattle.std.specs.Prelude.{◌++◌, slice_get, reverse}
+use Rattle.std.specs.Prelude.{◌++◌, ℤ, ◌≤ℤ◌, ◌<ℤ◌, Bool, true, false, if◌then◌else◌, int_le, slice_get, reverse}
+use Rattle.std.proofs.lemmas.Int.{ints}
 use Rattle.std.proofs.lemmas.List.{reverse-append}
 use Rattle.tf_model.specs.declared.entry.Entry.{Entry}
-use Rattle.tf_core.specs.Moves.{last_ms_in}
+use Rattle.tf_core.specs.Moves.{clamped, last_ms_in, moment_after}
+use Rattle.tf_core.proofs.Truths.{at_most_int}
 use Rattle.tf_core.specs.declared.kept.Kept.{Kept}
 use Rattle.tf_core.specs.Held.{last_ms_of}
 use Rattle.tf_core.specs.Kept.{entry_of}
@@ -33,3 +35,19 @@ last_is_newest (e ∷ f ∷ history) =
     ap last_ms_in (reverse-append (e ∷ []) (f ∷ history))
     ∙ (ap (λ past. last_ms_in (past ++ e ∷ [])) (reverse-append (f ∷ []) history)
     ∙ (ended (reverse history) e f ∙ (ap last_ms_in (sym (reverse-append (f ∷ []) history)) ∙ last_is_newest (f ∷ history))))
+
+-- ---- the moment that a given one makes
+pub now_is : (history : List Entry) (last now given : ℤ) → last ≡ last_ms_of history → now ≡ clamped given → last ≤ℤ now → now ≡ moment_after (reverse history) given
+now_is history last now given is clamps later =
+    let newest : last_ms_in (reverse history) ≡ last = last_is_newest history ∙ sym is in
+    let test : int_le (last_ms_in (reverse history)) (clamped given) ≡ true = (λ i. int_le (newest i) (sym clamps i)) ∙ at_most_int last now later in
+    clamps ∙ sym (ap (λ (b : Bool). if b then clamped given else last_ms_in (reverse history)) test)
+
+pub last_is : (history : List Entry) (last now given : ℤ) → last ≡ last_ms_of history → now ≡ clamped given → now <ℤ last → last ≡ moment_after (reverse history) given
+last_is history last now given is clamps sooner =
+    let newest : last_ms_in (reverse history) ≡ last = last_is_newest history ∙ sym is in
+    let test : int_le (last_ms_in (reverse history)) (clamped given) ≡ false = (λ i. int_le (newest i) (sym clamps i)) ∙ not_most last now sooner in
+    sym newest ∙ sym (ap (λ (b : Bool). if b then clamped given else last_ms_in (reverse history)) test)
+  where
+    not_most : (a b : ℤ) → b <ℤ a → int_le a b ≡ false
+    not_most a b e = grind (arith, ints)

@@ -1,6 +1,7 @@
 pub mod Placed
 pub mod Mapped
 pub mod Truths
+pub mod Written
 pub mod BuiltPast
 pub mod Set
 pub mod Tables
@@ -30,4 +31,4 @@ pub mod Used
 pub mod NextMove
 pub mod PageRows
 pub mod NextKind
-pub mod Commanded
+pub mod Beside

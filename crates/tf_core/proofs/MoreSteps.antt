@@ -1,12 +1,12 @@
 -- Entries that are prepared one after the other.
 use Rattle.std.proofs.Common.{◌≡◌, ℕ, ◌+◌, List, [], ◌∷◌, ◌++◌, arith, refl, sym, ap, ◌∙◌, subst, append-nil}
 use Rattle.tf_model.specs.declared.entry.Entry.{Entry}
-use Rattle.tf_history.specs.Catalogue.{SourceIndex}
+use Rattle.tf_history.specs.Catalogue.{SourceIndex, makes}
 use Rattle.tf_core.specs.declared.ready.Prepared.{Prepared}
 use Rattle.tf_core.specs.Chain.{AreSteps, PutHas, all_added, entries_in, row_count, rows_in}
 use Rattle.tf_core.specs.Kept.{entry_of}
 use Rattle.tf_core.specs.Made.{IsPreparedFor}
-use Rattle.tf_core.specs.Preparing.{PutsHave, rows_of_all}
+use Rattle.tf_core.specs.Preparing.{AllFit, PutsHave, rows_of_all}
 use Rattle.tf_core.specs.Steps.{IsStep, added}
 
 append_assoc : {X : Type 0} (xs ys zs : List X) → (xs ++ ys) ++ zs ≡ xs ++ (ys ++ zs)
@@ -30,12 +30,26 @@ rows_more : (steps : List Prepared) (p : Prepared) → row_count (steps ++ p ∷
 rows_more [] p = omega arith
 rows_more (x ∷ steps) p = omega (arith, rows_more steps p)
 
+added_more : (steps : List Prepared) (p : Prepared) → all_added (steps ++ p ∷ []) ≡ all_added steps ++ added p.step
+added_more [] p = append-nil (added p.step)
+added_more (x ∷ steps) p = ap (λ ss. added x.step ++ ss) (added_more steps p) ∙ sym (append_assoc (added x.step) (all_added steps) (added p.step))
+
+pub fit_first : (indices : List SourceIndex) (entries : List Entry) → AllFit indices entries → AllFit (indices ++ []) entries
+fit_first indices entries h = subst (λ ss. AllFit ss entries) (sym (append-nil indices)) h
+
 module _ (indices : List SourceIndex) (room : ℕ) (steps now : List Prepared) (p : Prepared) (e : Entry) (more : now ≡ steps ++ p ∷ []) (h : IsPreparedFor (indices ++ all_added steps) room e p) where
   pub same_more : (rest : List Entry) → entries_in now ++ rest ≡ entries_in steps ++ e ∷ rest
   same_more rest = ap (λ xs. entries_in xs ++ rest) more ∙ (entries_more steps p rest ∙ ap (λ x. entries_in steps ++ x ∷ rest) h.entry)
 
   pub chain_more : AreSteps indices steps → AreSteps indices now
   chain_more chain = subst (AreSteps indices) (sym more) (steps_more indices steps p chain (subst (λ x. IsStep (indices ++ all_added steps) x p.step) (sym h.entry) h.step.step))
+
+  pub fit_more : (rest : List Entry) → AllFit ((indices ++ all_added steps) ++ makes e.kind) rest → AllFit (indices ++ all_added now) rest
+  fit_more rest fit =
+      subst (λ ss. AllFit ss rest)
+      (ap (λ ss. (indices ++ all_added steps) ++ ss) h.step.step.makes_is
+      ∙ (append_assoc indices (all_added steps) (added p.step) ∙ ap (λ ss. indices ++ ss) (sym (added_more steps p) ∙ ap all_added (sym more))))
+      fit
 
   pub put_rows_more : PutsHave room steps → PutsHave room now
   put_rows_more puts = subst (PutsHave room) (sym more) (puts_more room steps p puts h.step.has)

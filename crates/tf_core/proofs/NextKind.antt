@@ -1,6 +1,6 @@
 -- What the next move does, as an entry's kind, and that its entry is taken.
 use Rattle.std.proofs.Common.{◌≡◌, ℕ, ◌+◌, ◌<◌, ◌≤◌, Bool, true, false, ◌&&◌, List, [], ◌∷◌, length, map, take, Option, Some, None, refl, sym, ap, subst, ◌∙◌, arith, ltb-true}
-use Rattle.std.specs.Prelude.{ℤ, pos, nat_lt, nat_eq, IsSomeAnd, IfSome, if◌then◌else◌, option_map, option_and_then}
+use Rattle.std.specs.Prelude.{ℤ, pos, ◌≤ℤ◌, int_le, nat_lt, nat_eq, IsSomeAnd, IfSome, if◌then◌else◌, option_map, option_and_then}
 use Rattle.std.specs.List.{AllByRecursion}
 use Rattle.tf_model.specs.declared.doc.Doc.{Doc}
 use Rattle.tf_model.specs.declared.entry.Entry.{Entry}
@@ -16,7 +16,7 @@ use Rattle.tf_history.proofs.MovesLaw.{moves_are_legal}
 use Rattle.tf_core.specs.declared.moving.What.{What}
 use Rattle.tf_core.specs.declared.moving.What.TheVariants as what
 use Rattle.tf_core.specs.declared.transform.Transform.{Transform}
-use Rattle.tf_core.specs.Allowing.{may_stop}
+use Rattle.tf_core.specs.Allowing.{may_stop, read_by}
 use Rattle.tf_core.specs.Legal.{read}
 use Rattle.tf_core.specs.Moves.{IsPage, kind_of, what_next}
 use Rattle.tf_core.specs.Standing.{Stands}
@@ -24,19 +24,11 @@ use Rattle.tf_core.specs.Summary.{IsSummary}
 use Rattle.tf_core.specs.Table.{Tells, transform_at}
 use Rattle.tf_core.proofs.AllowedKinds.{read_is_legal, unbounded}
 use Rattle.tf_core.proofs.NextMove.{move_is, deed_of, page_next, deed_by, form, is_batch, meaning_is}
-use Rattle.tf_core.proofs.Truths.{both, same_nat}
-use Rattle.std.specs.List.{list_all}
-use Rattle.std.specs.Prelude.{not}
-use Rattle.std.specs.Str.{bytes_eq}
-use Rattle.tf_model.specs.declared.config.Group.{Group}
-use Rattle.tf_model.specs.declared.config.Shape.{Shape}
-use Rattle.tf_model.specs.Keys.{groups_of}
-use Rattle.tf_model.specs.Values.{value_of, value_at}
-use Rattle.tf_core.specs.Built.{fits_first, is_keyword, type_at, sums_longs}
-use Rattle.tf_core.specs.BuiltPast.{IsBuiltDoc}
-use Rattle.tf_core.specs.Values.{field_value, has_only, is_small_value}
+use Rattle.tf_core.proofs.Truths.{both, int_at_most, same_nat}
+use Rattle.tf_model.specs.Values.{value_of}
+use Rattle.tf_core.specs.Built.{is_among}
 use Rattle.tf_model.specs.Changed.{changed_above}
-use Rattle.tf_model.specs.Conditions.{IsSpan}
+use Rattle.tf_model.specs.Conditions.{IsSpan, greatest_date}
 use Rattle.tf_model.specs.Counted.{counted}
 use Rattle.tf_model.specs.Rows.{pivot_row}
 use Rattle.tf_model.specs.declared.value.Key.{Key}
@@ -53,14 +45,14 @@ use Rattle.tf_core.specs.Built.{is_built}
 use Rattle.tf_core.specs.Legal.{reading, IsTaken}
 use Rattle.std.proofs.lemmas.Int.{ints}
 use Rattle.tf_core.specs.Legal.{IsTakenPast}
-use Rattle.tf_core.specs.Texts.{HasTexts, HasShortRows, IsShort, IsTextOf, IsTextRow}
-use Rattle.tf_core.specs.Moves.{IsTakenAtOnce, last_ms_in, move, moved}
+use Rattle.tf_core.specs.Texts.{HasTexts, HasShortRows, IsShort, IsTextRow}
+use Rattle.tf_core.specs.Moves.{IsTakenAtOnce, clamped, last_ms_in, moment_after, move, moved}
 use Rattle.tf_core.specs.Summary.{put_of}
-use Rattle.tf_core.specs.Values.{values_of}
-use Rattle.tf_core.proofs.Allowed.{built}
+use Rattle.tf_mapping.specs.Documents.{values_of}
 use Rattle.tf_core.proofs.AllowedTransforms.{form_is, put_is}
-use Rattle.tf_core.proofs.Fitting.{IsBuiltForm, built_form, all_take}
-use Rattle.tf_core.proofs.PageRows.{IsTextDoc, value_is_text, page_keys, rows_are_text, text_rows}
+use Rattle.tf_core.proofs.Fitting.{IsBuiltForm, IsReadable, all_take, built_form, read_are_readable, text_doc}
+use Rattle.tf_core.proofs.Sums.{all_filter}
+use Rattle.tf_core.proofs.PageRows.{IsTextDoc, text_known, page_keys, rows_are_text, text_rows}
 
 -- ---- the tests behind a choice
 abbrev choice : Bool → Bool → Bool → What
@@ -140,7 +132,7 @@ module _ (past : List Entry) (indices : List SourceIndex) (docs : List Doc) (ts 
       let below : t.finished < t.begun = ltb-true t.finished t.begun index.0 in
       omega (arith, below, h.tells.begun)
 
-  page_deed : (e : what_next t ≡ what.Page) (rows : List Row) → IsPage t.config t.position (take t.read docs) rows → (moment : ℤ)
+  page_deed : (e : what_next t ≡ what.Page) (rows : List Row) → IsPage t.config t.position (read_by t docs) rows → (moment : ℤ)
       → next_move id (read past) moment ≡ Some (deed_by past indices docs ts s id t l there h.is h.tells moment (some_begun e) rows)
   page_deed e rows page moment =
       next moment ∙ (ap (deed_of past indices docs ts s id t l there h.is h.tells moment) e ∙ page_next past indices docs ts s id t l there h.is h.tells moment (some_begun e) rows page)
@@ -150,7 +142,7 @@ module _ (past : List Entry) (indices : List SourceIndex) (docs : List Doc) (ts 
   now_by [] = Finish id t.begun
   now_by (r ∷ rows) = Page id t.begun (r ∷ rows)
 
-  now_deed : (e : what_next t ≡ what.Page) (rows : List Row) → IsPage t.config t.position (take t.read docs) rows → (moment : ℤ) → next_move id (read past) moment ≡ Some (now_by rows)
+  now_deed : (e : what_next t ≡ what.Page) (rows : List Row) → IsPage t.config t.position (read_by t docs) rows → (moment : ℤ) → next_move id (read past) moment ≡ Some (now_by rows)
   now_deed e [] page moment =
       let is_next : next_move id (read past) moment ≡ Some (Finish id (l.finished + 1)) = page_deed e [] page moment in
       let may : MayFinish l (l.finished + 1) = subst (λ o. IsSomeAnd o (λ m. MayFinish m (l.finished + 1))) h.is (fine moment (Finish id (l.finished + 1)) is_next) in
@@ -164,7 +156,7 @@ module _ (past : List Entry) (indices : List SourceIndex) (docs : List Doc) (ts 
   kind_of_now [] = refl
   kind_of_now (r ∷ rows) = refl
 
-  pub page_kind : (e : what_next t ≡ what.Page) (rows : List Row) → IsPage t.config t.position (take t.read docs) rows → (moment : ℤ)
+  pub page_kind : (e : what_next t ≡ what.Page) (rows : List Row) → IsPage t.config t.position (read_by t docs) rows → (moment : ℤ)
       → Some (kind_by rows) ≡ option_and_then kind_of (next_move id (read past) moment)
   page_kind e rows page moment = sym (ap (option_and_then kind_of) (now_deed e rows page moment) ∙ kind_of_now rows)
 
@@ -178,24 +170,13 @@ any_texts [] = tt
 any_texts (d ∷ docs) = (λ name u e. tt, any_texts docs)
 
 module _ (past : List Entry) (indices : List SourceIndex) (docs : List Doc) (ts : List Transform) (s : Stands past indices docs ts) (id : List ℕ) (t : Transform) (there : transform_at id ts ≡ Some t) where
-  -- each document of the index has a text in the group's field, or none
-  texts_of : (P : List ℕ → Type 0) (ds : List Doc) → AllByRecursion (IsBuiltDoc indices) ds
-      → AllByRecursion (HasTexts P) ds
-      → (f : IsBuiltForm t.config) → fits_first t.config indices ≡ true → AllByRecursion (IsTextDoc P t.config f) ds
-  unfolding value_of
-  texts_of P [] all known f fits = tt
-  texts_of P (d ∷ ds) all known f fits = (text_of indices all.0 fits, texts_of P ds all.1 known.1 f fits)
-    where
-      text_of : (is : List SourceIndex) → IsBuiltDoc is d → fits_first t.config is ≡ true → IsTextDoc P t.config f d
-      text_of [] b fits = absurd b.taken
-      text_of (i ∷ is) b fits =
-          let keywords : Shape → Bool = λ s. list_all (λ (g : Group). is_keyword (type_at i.mapping.fields g.field)) (groups_of s) in
-          let named = both (list_all (λ source. bytes_eq source i.name) t.config.sources) (not (bytes_eq t.config.dest i.name) && (keywords t.config.shape && sums_longs t.config.shape i.mapping.fields)) fits in
-          let apart = both (not (bytes_eq t.config.dest i.name)) (keywords t.config.shape && sums_longs t.config.shape i.mapping.fields) named.1 in
-          let texts = both (keywords t.config.shape) (sums_longs t.config.shape i.mapping.fields) apart.1 in
-          let keyword = both (is_keyword (type_at i.mapping.fields f.pivot.group.field)) true (ap keywords (sym f.pivot.shape) ∙ texts.0) in
-          let small = both (has_only (map (λ field. field.0) i.mapping.fields) d.tree) (list_all (λ g. is_small_value (field_value d.tree g)) i.mapping.fields) b.taken.1 in
-          subst (λ vs. IsTextOf P (value_at vs f.pivot.group.field)) (sym b.taken.0) (value_is_text P d.tree known.0 i.mapping.fields f.pivot.group.field small.1 keyword.0)
+  -- each document that can be read has a text in the group's field
+  texts_of : (P : List ℕ → Type 0) (f : IsBuiltForm t.config) (ds : List Doc) → AllByRecursion (IsReadable t.config.shape) ds → AllByRecursion (HasTexts P) ds → AllByRecursion (IsTextDoc P t.config f) ds
+  texts_of P f [] all known = tt
+  texts_of P f (d ∷ ds) all known = (
+    text_known P (value_of d f.pivot.group.field) (text_doc t.config f d all.0) (λ u e. known.0 f.pivot.group.field u e),
+    texts_of P f ds all.1 known.1,
+  )
 
   abbrev IsTimely : ℤ → Type 0
   IsTimely moment = IsSpan moment × IsNotBefore moment (read past)
@@ -225,25 +206,25 @@ module _ (past : List Entry) (indices : List SourceIndex) (docs : List Doc) (ts 
 
   -- the rows of the next page, whatever is known of the texts of documents
   pub page_texts : (P : List ℕ → Type 0) → AllByRecursion (HasTexts P) docs → (rows : List Row)
-      → IsPage t.config t.position (take t.read docs) rows → AllByRecursion (IsTextRow P) rows
+      → IsPage t.config t.position (read_by t docs) rows → AllByRecursion (IsTextRow P) rows
   page_texts P known rows page =
       let put = form_is past indices docs ts s id t there in
       let f = built_form t.config put.form in
-      let read_docs = take t.read docs in
-      let texts = texts_of P read_docs (all_take (IsBuiltDoc indices) t.read docs (built past indices docs ts s).each_doc) (all_take (HasTexts P) t.read docs known) f put.fits in
+      let read_docs = read_by t docs in
+      let texts = texts_of P f read_docs (read_are_readable t.config.shape t.sources t.read docs put.reads) (all_filter (HasTexts P) (is_among t.sources) (take t.read docs) (all_take (HasTexts P) t.read docs known)) in
       rows_are_text P t.config f (counted t.config None read_docs) (take 500 (changed_above t.config None None t.position read_docs)) rows (page_keys P t.config f t.position read_docs texts) page
 
   -- a page has at most 500 rows
-  pub page_short : AllByRecursion (HasTexts IsShort) docs → (rows : List Row) → IsPage t.config t.position (take t.read docs) rows → HasShortRows (kind_by past indices docs ts s id t there rows)
+  pub page_short : AllByRecursion (HasTexts IsShort) docs → (rows : List Row) → IsPage t.config t.position (read_by t docs) rows → HasShortRows (kind_by past indices docs ts s id t there rows)
   page_short known [] page = tt
   page_short known (r ∷ rows) page =
-      let few : length (r ∷ rows) ≤ 500 = few_rows (r ∷ rows) (take 500 (changed_above t.config None None t.position (take t.read docs))) (λ k. pivot_row t.config k (counted t.config None (take t.read docs))) page (length-take 500 (changed_above t.config None None t.position (take t.read docs))) in
+      let few : length (r ∷ rows) ≤ 500 = few_rows (r ∷ rows) (take 500 (changed_above t.config None None t.position (read_by t docs))) (λ k. pivot_row t.config k (counted t.config None (read_by t docs))) page (length-take 500 (changed_above t.config None None t.position (read_by t docs))) in
       (few, page_texts IsShort known (r ∷ rows) page)
     where
-      few_rows : (rows : List Row) (keys : List Key) (f : Key → Option Row) → map Some rows ≡ map f keys → length keys ≡ min 500 (length (changed_above t.config None None t.position (take t.read docs))) → length rows ≤ 500
+      few_rows : (rows : List Row) (keys : List Key) (f : Key → Option Row) → map Some rows ≡ map f keys → length keys ≡ min 500 (length (changed_above t.config None None t.position (read_by t docs))) → length rows ≤ 500
       few_rows rows keys f made few = let same : length rows ≡ length keys = simp length-map at (ap length made) in omega (arith, same, few)
 
-  pub page_taken : (e : what_next t ≡ what.Page) (rows : List Row) → IsPage t.config t.position (take t.read docs) rows → (moment : ℤ) → IsTimely moment
+  pub page_taken : (e : what_next t ≡ what.Page) (rows : List Row) → IsPage t.config t.position (read_by t docs) rows → (moment : ℤ) → IsTimely moment
       → IsTaken past (moved moment (kind_by past indices docs ts s id t there rows))
   unfolding reading
   page_taken e [] page moment time = taken_next moment (kind.Finish id t.begun) (Finish id t.begun) time (now_deed past indices docs ts s id t there e [] page moment) refl tt refl
@@ -261,18 +242,60 @@ module _ (past : List Entry) (indices : List SourceIndex) (docs : List Doc) (ts 
           → FitsKind reading past moment (kind.Page id t.begun rows)
       page_fits rows h = h
 
--- ---- at the moment of the last entry
+-- ---- at the moment that a given one makes
+moment_is : (past : List Entry) → IsTakenPast past → IsSpan (last_ms_in past)
+moment_is [] taken = (omega (arith, ints), omega (arith, ints))
+moment_is (e ∷ past) taken = taken.1.legal.moment
+
+clamped_is : (given : ℤ) → IsSpan (clamped given)
+clamped_is given = by (int_le given (pos 0)) (int_le greatest_date given) refl refl
+  where
+    above : (a b : ℤ) → int_le a b ≡ false → b ≤ℤ a
+    above a b e = grind (arith, ints)
+
+    by : (low high : Bool) → int_le given (pos 0) ≡ low → int_le greatest_date given ≡ high → IsSpan (if low then pos 0 else if high then greatest_date else given)
+    by true high e f = (omega (arith, ints), omega (arith, ints))
+    by false true e f = (omega (arith, ints), omega (arith, ints))
+    by false false e f = (above given (pos 0) e, above greatest_date given f)
+
 pub last_is_timely : (past : List Entry) → IsTakenPast past → IsSpan (last_ms_in past) × IsNotBefore (last_ms_in past) (read past)
 last_is_timely [] taken = ((omega (arith, ints), omega (arith, ints)), tt)
 last_is_timely (e ∷ past) taken = (taken.1.legal.moment, omega (arith, ints))
 
-pub entry_is : (past : List Entry) (id : List ℕ) (k : Option Kind) (at_ms : ℤ) → at_ms ≡ last_ms_in past → ((moment : ℤ) → k ≡ option_and_then kind_of (next_move id (read past) moment))
-    → option_map (moved at_ms) k ≡ move id past (last_ms_in past)
-entry_is past id k at_ms at next = (λ i. option_map (moved (at i)) (next (at i) i))
+not_before : (past : List Entry) (moment : ℤ) → last_ms_in past ≤ℤ moment → IsNotBefore moment (read past)
+not_before [] moment e = tt
+not_before (f ∷ past) moment e = e
 
-pub entry_taken : (past : List Entry) (k : Option Kind) (at_ms : ℤ) → IsTakenPast past → at_ms ≡ last_ms_in past → IfSome k (IsTakenAtOnce past) → IfSome (option_map (moved at_ms) k) (IsTaken past)
-entry_taken past None at_ms taken at h = tt
-entry_taken past (Some k) at_ms taken at h = let time = last_is_timely past taken in subst (λ m. IsTaken past (moved m k)) (sym at) (h (last_ms_in past) time.0 time.1)
+pub given_is_timely : (past : List Entry) (given : ℤ) → IsTakenPast past → IsSpan (moment_after past given) × IsNotBefore (moment_after past given) (read past)
+given_is_timely past given taken = by (int_le (last_ms_in past) (clamped given)) refl
+  where
+    by : (b : Bool) → int_le (last_ms_in past) (clamped given) ≡ b → IsSpan (if b then clamped given else last_ms_in past) × IsNotBefore (if b then clamped given else last_ms_in past) (read past)
+    by true e = (clamped_is given, not_before past (clamped given) (int_at_most (last_ms_in past) (clamped given) e))
+    by false e = last_is_timely past taken
+
+-- the moment of the newest entry is its own
+same_int : (a b : ℤ) → a ≤ℤ b → b ≤ℤ a → a ≡ b
+same_int a b low high = omega (arith, ints, low, high)
+
+clamped_within : (ms : ℤ) (low high : Bool) → IsSpan ms → int_le ms (pos 0) ≡ low → int_le greatest_date ms ≡ high → (if low then pos 0 else if high then greatest_date else ms) ≡ ms
+clamped_within ms true high span e f = same_int (pos 0) ms span.0 (int_at_most ms (pos 0) e)
+clamped_within ms false true span e f = same_int greatest_date ms (int_at_most greatest_date ms f) span.1
+clamped_within ms false false span e f = refl
+
+pub last_stays : (past : List Entry) → IsTakenPast past → moment_after past (last_ms_in past) ≡ last_ms_in past
+last_stays past taken =
+    by (int_le (last_ms_in past) (clamped (last_ms_in past))) (clamped (last_ms_in past)) (clamped_within (last_ms_in past) (int_le (last_ms_in past) (pos 0)) (int_le greatest_date (last_ms_in past)) (moment_is past taken) refl refl)
+  where
+    by : (b : Bool) (ms : ℤ) → ms ≡ last_ms_in past → (if b then ms else last_ms_in past) ≡ last_ms_in past
+    by true ms e = e
+    by false ms e = refl
+
+pub entry_is : (past : List Entry) (id : List ℕ) (k : Option Kind) (at_ms : ℤ) → ((moment : ℤ) → k ≡ option_and_then kind_of (next_move id (read past) moment)) → option_map (moved at_ms) k ≡ move id past at_ms
+entry_is past id k at_ms next = ap (option_map (moved at_ms)) (next at_ms)
+
+pub entry_taken : (past : List Entry) (k : Option Kind) (given : ℤ) → IsTakenPast past → IfSome k (IsTakenAtOnce past) → IfSome (option_map (moved (moment_after past given)) k) (IsTaken past)
+entry_taken past None given taken h = tt
+entry_taken past (Some k) given taken h = let time = given_is_timely past given taken in h (moment_after past given) time.0 time.1
 
 pub short_entry : (k : Option Kind) (at_ms : ℤ) → IfSome k HasShortRows → IfSome (option_map (moved at_ms) k) (λ (e : Entry). HasShortRows e.kind)
 short_entry None at_ms h = tt

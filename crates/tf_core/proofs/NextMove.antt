@@ -23,17 +23,15 @@ use Rattle.tf_history.proofs.MeaningLaw.{meanings_agree}
 use Rattle.tf_core.specs.declared.moving.What.{What}
 use Rattle.tf_core.specs.declared.moving.What.TheVariants as what
 use Rattle.tf_core.specs.declared.transform.Transform.{Transform}
-use Rattle.tf_core.specs.Allowing.{may_stop}
-use Rattle.tf_core.specs.BuiltPast.{IsBuiltDoc, IsBuiltPut}
+use Rattle.tf_core.specs.Allowing.{may_stop, read_by}
 use Rattle.tf_core.specs.Legal.{read}
 use Rattle.tf_core.specs.Moves.{what_next}
 use Rattle.tf_core.specs.Standing.{Stands}
-use Rattle.tf_core.specs.Summary.{IsSummary, put_of}
+use Rattle.tf_core.specs.Summary.{IsSummary}
 use Rattle.tf_core.specs.Table.{transform_at}
-use Rattle.tf_core.proofs.Allowed.{built}
-use Rattle.tf_core.proofs.AllowedKinds.{once, only_one, sources_are, left_is}
+use Rattle.tf_core.proofs.AllowedKinds.{once, only_one, left_is}
 use Rattle.tf_core.proofs.AllowedTransforms.{stop_is, form_is}
-use Rattle.tf_core.proofs.Fitting.{IsBuiltForm, built_form, all_take}
+use Rattle.tf_core.proofs.Fitting.{IsBuiltForm, built_form}
 
 dead : (b : Bool) (other : Option Deed) → (if b && false then other else None) ≡ None
 dead true other = refl
@@ -55,23 +53,20 @@ rows_made f g same (k ∷ ks) (r ∷ rows) made =
     let here : f k ≡ Some r = same k ∙ cc in
     (λ j. cons_option (here j) (rows_made f g same ks rows (cc) j))
 
-pivoted : (c : Config) (docs : List Doc) (k : Key) → is_pivot c.shape ≡ true → row_of (0 ∷ []) c docs k ≡ pivot_row c k docs
+pivoted : (sources : List ℕ) (c : Config) (docs : List Doc) (k : Key) → is_pivot c.shape ≡ true → row_of sources c docs k ≡ pivot_row c k docs
 unfolding row_of
-pivoted c docs k pivot = rw pivot refl
+pivoted sources c docs k pivot = rw pivot refl
 
 never : (n : ℕ) → nat_eq (suc n) 0 ≡ false
 never n = grind arith
 
 module _ (past : List Entry) (indices : List SourceIndex) (docs : List Doc) (ts : List Transform) (s : Stands past indices docs ts) (id : List ℕ) (t : Transform) (l : Life) (there : transform_at id ts ≡ Some t)
     (is : life id (read past) ≡ Some l) (sum : IsSummary docs t l) (moment : ℤ) where
-  put_built : IsBuiltPut indices (put_of t)
-  put_built = form_is past indices docs ts s id t there
-
   pub form : IsBuiltForm t.config
-  form = built_form t.config put_built.form
+  form = built_form t.config (form_is past indices docs ts s id t there).form
 
-  pub meaning_is : l.meaning ≡ meaning (0 ∷ []) t.config
-  meaning_is = sum.meaning_is ∙ ap (λ sources. meaning sources t.config) put_built.sources
+  pub meaning_is : l.meaning ≡ meaning t.sources t.config
+  meaning_is = sum.meaning_is
 
   pub is_batch : l.meaning.is_batch ≡ true
   is_batch = ap (λ m. m.is_batch) meaning_is ∙ ap is_none form.batch
@@ -111,7 +106,7 @@ module _ (past : List Entry) (indices : List SourceIndex) (docs : List Doc) (ts 
 
   -- ---- pages
   abbrev docs_read : List Doc
-  docs_read = take t.read docs
+  docs_read = read_by t docs
 
   pivot : is_pivot t.config.shape ≡ true
   pivot = ap is_pivot form.pivot.shape
@@ -126,7 +121,7 @@ module _ (past : List Entry) (indices : List SourceIndex) (docs : List Doc) (ts 
     reads : first.0.read ≡ docs_read
     reads =
         ap read_last (sym first.1)
-        ∙ (sum.read ∙ (ap (λ m. from_sources m docs_read) meaning_is ∙ sources_are t.config indices docs_read (all_take (IsBuiltDoc indices) t.read docs (built past indices docs ts s).each_doc)))
+        ∙ (sum.read ∙ ap (λ m. from_sources m (take t.read docs)) meaning_is)
 
     first_bound : first.0.bound ≡ None
     first_bound = ap last_bound (sym first.1) ∙ (once past id l s.taken is is_batch).1
@@ -140,8 +135,8 @@ module _ (past : List Entry) (indices : List SourceIndex) (docs : List Doc) (ts 
     rows_now k =
         ap (λ cs. grouping.row_of l.meaning (counted_last l.meaning cs) k) first.1
         ∙ ((λ i. grouping.row_of (meaning_is i) (grouping.counted (meaning_is i) (first_bound i) (reads i)) k)
-        ∙ (ap (λ ds. grouping.row_of (meaning (0 ∷ []) t.config) ds k) ((meanings_agree (0 ∷ []) t.config).counted_is None docs_read)
-        ∙ ((meanings_agree (0 ∷ []) t.config).row_is (counted t.config None docs_read) k ∙ pivoted t.config (counted t.config None docs_read) k pivot)))
+        ∙ (ap (λ ds. grouping.row_of (meaning t.sources t.config) ds k) ((meanings_agree t.sources t.config).counted_is None docs_read)
+        ∙ ((meanings_agree t.sources t.config).row_is (counted t.config None docs_read) k ∙ pivoted t.sources t.config (counted t.config None docs_read) k pivot)))
 
     -- the deed of a page of rows, a Finish where there are none
     abbrev pub deed_by : List Row → Deed

@@ -1,12 +1,10 @@
 -- The rows of a page are of the shape's kind: a text as key, and one whole number.
-use Rattle.std.proofs.Common.{◌≡◌, ℕ, zero, suc, Bool, true, false, List, [], ◌∷◌, ◌++◌, length, map, take, filter, Option, Some, None, refl, sym, ap, subst, ◌∙◌, inl, inr}
+use Rattle.std.proofs.Common.{◌≡◌, ℕ, zero, suc, Bool, true, false, List, [], ◌∷◌, ◌++◌, length, map, take, filter, Option, Some, None, refl, sym, ap, subst, ◌∙◌}
 use Rattle.std.specs.Prelude.{ℤ, pos, negsuc, int_le, if◌then◌else◌, option_map, option_and_then}
-use Rattle.std.specs.List.{AllByRecursion, list_all, flat_map, fold}
+use Rattle.std.specs.List.{AllByRecursion, flat_map, fold}
 use Rattle.std.specs.BTreeSet.{insert_key}
 use Rattle.std.specs.Ordering.{match_ordering}
-use Rattle.std.specs.Str.{bytes_eq}
 use Rattle.std.specs.declared.cmp.Ordering.TheVariants.{Less, Equal, Greater}
-use Rattle.std.proofs.lemmas.Bool.{cases_Bool}
 use Rattle.std.proofs.lemmas.Option.{same_Some}
 use Rattle.tf_model.specs.declared.config.Agg.{Agg}
 use Rattle.tf_model.specs.declared.config.Config.{Config}
@@ -16,9 +14,6 @@ use Rattle.tf_model.specs.declared.config.Shape.TheVariants.{Pivot}
 use Rattle.tf_model.specs.declared.doc.Doc.{Doc}
 use Rattle.tf_model.specs.declared.entry.Row.{Row}
 use Rattle.tf_model.specs.declared.entry.Row.TheVariants as row
-use Rattle.tf_model.specs.declared.query.FieldType.{FieldType}
-use Rattle.tf_model.specs.declared.query.FieldType.TheVariants as type
-use Rattle.tf_model.specs.declared.tree.Tree.{Tree}
 use Rattle.tf_model.specs.declared.value.Key.{Key}
 use Rattle.tf_model.specs.declared.value.Value.{Value}
 use Rattle.tf_model.specs.declared.value.Value.TheVariants as value
@@ -27,52 +22,22 @@ use Rattle.tf_model.specs.Counted.{window, is_in_window}
 use Rattle.tf_model.specs.Keys.{all_keys, keys_of, key_of, key_by, listed, part_from, grouped, missing_part}
 use Rattle.tf_model.specs.Order.{key_cmp}
 use Rattle.tf_model.specs.Rows.{pivot_row, all_aggregated, aggregated, aggs_of, with_key, field_values, total, fits_i64}
-use Rattle.tf_model.specs.Trees as trees
-use Rattle.tf_model.specs.Trees.{member_of}
-use Rattle.tf_model.specs.Values.{value_of, value_at}
+use Rattle.tf_model.specs.Values.{value_of}
 use Rattle.tf_model.specs.Conditions.{IsBetween}
 use Rattle.tf_history.specs.LegalEntries.{IsPart, IsRowValue, IsRowOf}
-use Rattle.tf_core.specs.Built.{is_keyword, type_at}
+use Rattle.tf_core.specs.Built.{is_text}
 use Rattle.tf_core.specs.Texts.{IsTextOf, IsTextKey, IsTextRow}
-use Rattle.tf_core.specs.Values.{field_value, value_as, values_from, with_value, is_small_value}
 use Rattle.tf_core.proofs.Fitting.{IsBuiltForm}
-use Rattle.tf_core.proofs.Sums.{skipped}
 use Rattle.tf_core.proofs.Truths.{both, int_at_most}
 
--- ---- values of a keyword
-module _ (P : List ℕ → Type 0) (t : Tree) (known : (name s : List ℕ) → option_and_then trees.text_in (member_of t name) ≡ Some s → P s) where
-  text_value : (name : List ℕ) (o : Option (List ℕ)) → option_and_then trees.text_in (member_of t name) ≡ o → IsTextOf P (option_map value.Str o)
-  text_value name None e = tt
-  text_value name (Some s) e = known name s e
-
-  keyword_value : (f : List ℕ × FieldType) → is_keyword (Some f.1) ≡ true → IsTextOf P (field_value t f)
-  keyword_value (name, type.Keyword) e = by (member_of t name) refl
-    where
-      by : (m : Option Tree) → member_of t name ≡ m → IsTextOf P (option_and_then (value_as type.Keyword) m)
-      by None is = tt
-      by (Some u) is = text_value name (trees.text_in u) (ap (option_and_then trees.text_in) is)
-  keyword_value (name, type.Long) e = absurd (let z : false ≡ true = e in cc)
-  keyword_value (name, type.Boolean) e = absurd (let z : false ≡ true = e in cc)
-  keyword_value (name, type.Date) e = absurd (let z : false ≡ true = e in cc)
-
-  found_text : (f : List ℕ × FieldType) (fields : List (List ℕ × FieldType)) (name : List ℕ) (o : Option Value) → field_value t f ≡ o → is_small_value o ≡ true → bytes_eq f.0 name ≡ true → IsTextOf P (field_value t f)
-      → IsTextOf P (value_at (with_value f.0 (field_value t f) (values_from fields t)) name)
-  found_text f fields name None is small same text = absurd (let z : false ≡ true = small in cc)
-  found_text f fields name (Some v) is small same text =
-      subst (IsTextOf P)
-      (is ∙ sym (ap (λ o. value_at (with_value f.0 o (values_from fields t)) name) is ∙ ap (λ (b : Bool). if b then Some v else value_at (values_from fields t) name) same)) text
-
-  pub value_is_text : (fields : List (List ℕ × FieldType)) (name : List ℕ) → list_all (λ f. is_small_value (field_value t f)) fields ≡ true → is_keyword (type_at fields name) ≡ true
-      → IsTextOf P (value_at (values_from fields t) name)
-  value_is_text [] name small e = absurd (let z : false ≡ true = e in cc)
-  value_is_text (f ∷ fields) name small e =
-      let parts = both (is_small_value (field_value t f)) (list_all (λ f. is_small_value (field_value t f)) fields) small in
-      elim (cases_Bool (bytes_eq f.0 name)) [
-        | inl same ↦ found_text f fields name (field_value t f) refl parts.0 same (keyword_value f (ap (λ (b : Bool). is_keyword (if b then Some f.1 else type_at fields name)) (sym same) ∙ e))
-        | inr other ↦
-            subst (IsTextOf P) (sym (skipped f.0 (field_value t f) (values_from fields t) name other))
-            (value_is_text fields name parts.1 (ap (λ (b : Bool). is_keyword (if b then Some f.1 else type_at fields name)) (sym other) ∙ e))
-      ]
+-- a text that is there
+pub text_known : (P : List ℕ → Type 0) (o : Option Value) → is_text o ≡ true → ((u : List ℕ) → o ≡ Some (value.Str u) → P u) → IsTextOf P o
+text_known P None e known = tt
+text_known P (Some (value.Str u)) e known = known u refl
+text_known P (Some value.Null) e known = absurd (let z : false ≡ true = e in cc)
+text_known P (Some (value.Bool b)) e known = absurd (let z : false ≡ true = e in cc)
+text_known P (Some (value.Int n)) e known = absurd (let z : false ≡ true = e in cc)
+text_known P (Some (value.Date ms)) e known = absurd (let z : false ≡ true = e in cc)
 
 -- ---- keys of documents
 listed_part : (P : List ℕ → Type 0) (o : Option Value) → IsTextOf P o → AllByRecursion (IsTextKey P) (listed (option_map (λ parts. record { parts = parts }) (option_and_then (λ part. Some (part ∷ [])) o)))

@@ -1,5 +1,5 @@
 -- A core that is ready.
-use Rattle.std.proofs.Common.{◌≡◌, ℕ, ◌<◌, false, List, [], ◌∷◌, ◌++◌, length, Option, Some, None, refl, sym, ap, subst}
+use Rattle.std.proofs.Common.{◌≡◌, ℕ, ◌<◌, true, false, List, [], ◌∷◌, ◌++◌, length, Option, Some, None, refl, sym, ap, subst}
 use Rattle.std.specs.Prelude.{IsSomeAnd, slice_get}
 use Rattle.std.specs.Arc.{arc_value}
 use Rattle.std.specs.List.{list_any}
@@ -32,9 +32,10 @@ use Rattle.tf_core.specs.Preparing.{AllFit, ArePrepared}
 use Rattle.tf_core.specs.Rooms.{SameTables}
 use Rattle.tf_core.specs.Standing.{IsCore, Stands, shared}
 use Rattle.tf_core.specs.Steps.{IsStep}
-use Rattle.tf_core.specs.Values.{values_of}
+use Rattle.tf_mapping.specs.Documents.{reads, values_of}
 use Rattle.tf_core.proofs.SameTables.{still_stands}
 use Rattle.tf_core.proofs.Taken.{is_allowed, is_forever}
+use Rattle.tf_core.proofs.Written.{kept_is_read}
 
 same_head : (x y : Doc) (xs ys : List Doc) → x ∷ xs ≡ y ∷ ys → x ≡ y
 same_head x y xs ys e = same_Some x y (ap (λ ds. slice_get ds 0) e)
@@ -47,9 +48,14 @@ some_rows : (o : Option Life) (n : ℕ) (rows : List Row) → IsSomeAnd o (λ l.
 some_rows None n rows h = absurd h
 some_rows (Some l) n rows h = h.some
 
-fit_kind : (past : List Entry) (e : Entry) (k : Kind) → e.kind ≡ k → IsTaken past e → IsAllowed e.at_ms (deed_of values_of (catalogue past) k) (read past) → IsFit k
+fit_kind : (past : List Entry) (e : Entry) (k : Kind) → e.kind ≡ k → IsTaken past e → IsAllowed e.at_ms (deed_of values_of (catalogue past) k) (read past) → IsFit (catalogue past) k
+unfolding reading
 fit_kind past e (kind.Index name shards mapping stamp quick) is taken h = tt
-fit_kind past e (kind.Write index shard seq id tree) is taken h = tt
+fit_kind past e (kind.Write index shard seq id tree) is taken h = read_by (slice_get (catalogue past) index) (subst (FitsKind reading past e.at_ms) is taken.legal.fits)
+  where
+    read_by : (o : Option SourceIndex) → IsSomeAnd o (λ s. MayWrite reading (documents (read past)) e.at_ms s index shard seq id tree) → IsSomeAnd o (λ s. reads s.mapping None tree ≡ true)
+    read_by None h = absurd h
+    read_by (Some s) h = kept_is_read s.mapping s.stamp e.at_ms tree h.read
 fit_kind past e (kind.Put id config) is taken h = is_forever past e id config taken is
 fit_kind past e (kind.Delete id) is taken h = tt
 fit_kind past e (kind.Reset id) is taken h = tt
@@ -62,7 +68,7 @@ fit_kind past e (kind.Begin id n bound) is taken h = tt
 fit_kind past e (kind.Page id n rows) is taken h = some_rows (life id (read past)) n rows h
 fit_kind past e (kind.Finish id n) is taken h = tt
 
-pub all_fit : (past entries : List Entry) → AreTaken past entries → AllFit entries
+pub all_fit : (past entries : List Entry) → AreTaken past entries → AllFit (catalogue past) entries
 all_fit past [] h = tt
 all_fit past (e ∷ entries) h = (fit_kind past e e.kind refl h.0 (is_allowed past e h.0), all_fit (e ∷ past) entries h.1)
 

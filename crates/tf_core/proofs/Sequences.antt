@@ -14,7 +14,7 @@ use Rattle.tf_history.specs.Lives.{documents, writes}
 use Rattle.tf_history.specs.Reading.{deed_of}
 use Rattle.tf_core.specs.Legal.{IsTakenPast, read, reading}
 use Rattle.tf_core.specs.Lookups.{AreNumbered}
-use Rattle.tf_core.specs.Values.{values_of}
+use Rattle.tf_mapping.specs.Documents.{values_of}
 
 -- as many documents of a document's shard
 abbrev beside : Doc → List Doc → ℕ

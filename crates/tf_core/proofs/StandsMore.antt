@@ -32,7 +32,7 @@ use Rattle.tf_core.specs.Standing.{Stands}
 use Rattle.tf_core.specs.Steps.{Changed, HasLife, IsStep, IsSound, IsWhole, Stepped, act_of, acts_of, added, docs_of, only, puts_after}
 use Rattle.tf_core.specs.Summary.{IsFew, IsSummary, put_of}
 use Rattle.tf_core.specs.Table.{Tells, is_other, place_in, transform_at}
-use Rattle.tf_core.specs.Values.{values_of}
+use Rattle.tf_mapping.specs.Documents.{values_of}
 use Rattle.tf_core.proofs.Changes.{change_tells, few_after, few_more, more_docs, put_stays}
 use Rattle.tf_core.proofs.Tables.{all_filter, all_map, all_set, all_weaker, at_map, at_place, at_remove, at_set, found_within}
 use Rattle.tf_core.proofs.Taken.{is_allowed, is_legal}

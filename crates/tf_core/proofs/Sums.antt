@@ -1,61 +1,28 @@
--- The documents that the index takes fit its transform, and no sum over them leaves i64.
-use Rattle.std.proofs.Common.{◌≡◌, ℕ, ℤ, suc, ◌*◌, ◌^◌, ◌≤◌, Bool, true, false, List, [], ◌∷◌, length, filter, Option, Some, None, refl, sym, ap, ◌∙◌, arith, inl, inr}
+-- Numbers that are small, and their sums.
+use Rattle.std.proofs.Common.{◌≡◌, ℕ, ℤ, suc, ◌*◌, ◌^◌, ◌≤◌, Bool, true, false, List, [], ◌∷◌, length, filter, Option, Some, None, refl, ap, arith}
 use Rattle.std.specs.Prelude.{pos, negsuc, ◌+ℤ◌, ◌-ℤ◌, ◌≤ℤ◌, if◌then◌else◌}
-use Rattle.std.specs.List.{AllByRecursion, list_all, cons_option}
-use Rattle.std.specs.Option.{option_map, option_and_then}
-use Rattle.std.specs.Str.{bytes_eq}
-use Rattle.std.proofs.lemmas.Bool.{cases_Bool}
+use Rattle.std.specs.List.{AllByRecursion, cons_option}
 use Rattle.std.proofs.lemmas.Int.{ints}
 use Rattle.tf_model.specs.declared.doc.Doc.{Doc}
-use Rattle.tf_model.specs.declared.tree.Tree.{Tree}
-use Rattle.tf_model.specs.declared.query.FieldType.{FieldType}
-use Rattle.tf_model.specs.declared.query.FieldType.TheVariants as type
 use Rattle.tf_model.specs.declared.value.Value.{Value}
 use Rattle.tf_model.specs.declared.value.Value.TheVariants as value
 use Rattle.tf_model.specs.Conditions.{IsBetween}
 use Rattle.tf_model.specs.Rows.{total, field_values, fits_i64}
-use Rattle.tf_model.specs.Trees as trees
-use Rattle.tf_model.specs.Trees.{member_of}
-use Rattle.tf_model.specs.Values.{value_of, value_at}
-use Rattle.tf_core.specs.Built.{type_at, is_long}
+use Rattle.tf_model.specs.Values.{value_of}
+use Rattle.tf_core.specs.Built.{is_small}
 use Rattle.tf_core.proofs.Truths.{both, int_at_most}
-use Rattle.tf_core.specs.Values.{field_value, is_small_value, value_as, values_from, with_value}
 
 -- a number of at most 1,000,000,000 either way
 abbrev pub IsSmallNumber : Option Value → Type 0
 IsSmallNumber o = (n : ℤ) × (o ≡ Some (value.Int n)) × IsBetween (negsuc 999999999) (pos 1000000000) n
 
-small_int : (o : Option ℤ) → is_small_value (option_map value.Int o) ≡ true → IsSmallNumber (option_map value.Int o)
-small_int None e = absurd (cc)
-small_int (Some n) e = let parts = both _ _ e in (n, refl, (int_at_most _ _ parts.0, int_at_most _ _ parts.1))
-
-small_member : (f : FieldType) (m : Option Tree) → is_long (Some f) ≡ true → is_small_value (option_and_then (value_as f) m) ≡ true → IsSmallNumber (option_and_then (value_as f) m)
-small_member type.Keyword m long small = absurd (let e : false ≡ true = long in cc)
-small_member type.Boolean m long small = absurd (let e : false ≡ true = long in cc)
-small_member type.Date m long small = absurd (let e : false ≡ true = long in cc)
-small_member type.Long None long small = absurd (let e : false ≡ true = small in cc)
-small_member type.Long (Some m) long small = small_int (trees.number_in m) small
-
-pub skipped : (other : List ℕ) (o : Option Value) (values : List (List ℕ × Value)) (name : List ℕ) → bytes_eq other name ≡ false → value_at (with_value other o values) name ≡ value_at values name
-skipped other None values name e = refl
-skipped other (Some v) values name e = ap (λ (b : Bool). if b then Some v else value_at values name) e
-
-pub value_is_small : (fields : List (List ℕ × FieldType)) (t : Tree) (name : List ℕ) → list_all (λ f. is_small_value (field_value t f)) fields ≡ true → is_long (type_at fields name) ≡ true
-    → IsSmallNumber (value_at (values_from fields t) name)
-value_is_small [] t name small long = absurd (let e : false ≡ true = long in cc)
-value_is_small (f ∷ fields) t name small long =
-    let parts = both _ _ small in
-    elim (cases_Bool (bytes_eq f.0 name)) [
-      | inl same ↦
-          let its_type : is_long (Some f.1) ≡ true = ap (λ (b : Bool). is_long (if b then Some f.1 else type_at fields name)) (sym same) ∙ long in
-          let found = small_member f.1 (member_of t f.0) its_type parts.0 in
-          let there : field_value t f ≡ Some (value.Int found.0) = found.1 in
-          (found.0, (ap (λ o. value_at (with_value f.0 o (values_from fields t)) name) there ∙ ap (λ (b : Bool). if b then Some (value.Int found.0) else value_at (values_from fields t) name) same), found.2)
-      | inr other ↦
-          let rest_type : is_long (type_at fields name) ≡ true = ap (λ (b : Bool). is_long (if b then Some f.1 else type_at fields name)) (sym other) ∙ long in
-          let rest = value_is_small fields t name parts.1 rest_type in
-          (rest.0, (skipped f.0 (field_value t f) (values_from fields t) name other ∙ rest.1), rest.2)
-    ]
+pub small_number : (o : Option Value) → is_small o ≡ true → IsSmallNumber o
+small_number None e = absurd (let z : false ≡ true = e in cc)
+small_number (Some value.Null) e = absurd (let z : false ≡ true = e in cc)
+small_number (Some (value.Bool b)) e = absurd (let z : false ≡ true = e in cc)
+small_number (Some (value.Date ms)) e = absurd (let z : false ≡ true = e in cc)
+small_number (Some (value.Str text)) e = absurd (let z : false ≡ true = e in cc)
+small_number (Some (value.Int n)) e = let parts = both _ _ e in (n, refl, (int_at_most _ _ parts.0, int_at_most _ _ parts.1))
 
 -- the values of a field of some documents are small
 abbrev pub HasSmall : List ℕ → Doc → Type 0

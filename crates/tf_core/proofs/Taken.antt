@@ -11,9 +11,9 @@ use Rattle.tf_history.specs.LegalEntries.{FitsKind, IsLegalPast, MayPut}
 use Rattle.tf_history.specs.Reading.{deed_of}
 use Rattle.tf_history.proofs.EntriesLaw.{legal_entries_are_legal}
 use Rattle.tf_model.specs.Names.{is_index_name}
-use Rattle.tf_core.specs.Built.{fits_first, has_one, is_built_config, is_built_shape, is_match_all}
+use Rattle.tf_core.specs.Built.{fits_indices, has_one, is_built_config, is_built_shape, is_match_all}
 use Rattle.tf_core.specs.Legal.{IsTaken, IsTakenPast, read, reading}
-use Rattle.tf_core.specs.Values.{values_of}
+use Rattle.tf_mapping.specs.Documents.{values_of}
 
 legal_past : (past : List Entry) → IsTakenPast past → IsLegalPast reading past
 legal_past [] h = tt
@@ -51,7 +51,7 @@ built_forever c h = none_is c.retention (sixth (has_one c.sources) (is_match_all
 
 put_forever : (past : List Entry) (id : List ℕ) (c : Config) → MayPut reading past id c → c.retention ≡ None
 unfolding reading
-put_forever past id c h = built_forever c (both (is_built_config c) (fits_first c (catalogue past)) h.checked).0
+put_forever past id c h = built_forever c (both (is_built_config c) (fits_indices c (catalogue past)) h.checked).0
 
 pub is_forever : (past : List Entry) (e : Entry) (id : List ℕ) (c : Config) → IsTaken past e → e.kind ≡ kind.Put id c → c.retention ≡ None
 is_forever past e id c h is = put_forever past id c (subst (FitsKind reading past e.at_ms) is h.legal.fits)

@@ -1,5 +1,5 @@
 -- Whether an entry is taken, by what a core keeps.
-use Rattle.std.specs.Prelude.{ℕ, ℤ, pos, negsuc, ◌+◌, ◌^◌, int_le, nat_le, nat_lt, nat_eq, Bool, true, false, not, ◌&&◌, ◌||◌, List, [], ◌∷◌, length, slice_get, take, Option, Some, None, is_none}
+use Rattle.std.specs.Prelude.{ℕ, ℤ, pos, negsuc, ◌+◌, ◌^◌, int_le, nat_le, nat_lt, nat_eq, Bool, true, false, if◌then◌else◌, not, ◌&&◌, ◌||◌, List, [], ◌∷◌, count_by, filter, length, map, slice_get, take, Option, Some, None, is_none}
 use Rattle.std.specs.List.{list_all, list_any}
 use Rattle.std.specs.Str.{bytes_eq}
 use Rattle.tf_model.specs.declared.config.Agg.{Agg}
@@ -13,6 +13,7 @@ use Rattle.tf_model.specs.declared.entry.Kind.TheVariants as kind
 use Rattle.tf_model.specs.declared.entry.Row.{Row}
 use Rattle.tf_model.specs.declared.entry.Row.TheVariants as row
 use Rattle.tf_model.specs.declared.query.FieldType.{FieldType}
+use Rattle.tf_model.specs.declared.query.Mapping.{Mapping}
 use Rattle.tf_model.specs.declared.task.State.{State}
 use Rattle.tf_model.specs.declared.task.State.TheVariants as state
 use Rattle.tf_model.specs.declared.tree.Tree.{Tree}
@@ -25,12 +26,17 @@ use Rattle.tf_model.specs.Keys.{least_date}
 use Rattle.tf_model.specs.Names.{is_index_name, is_transform_id, is_field_path}
 use Rattle.tf_history.specs.Catalogue.{SourceIndex}
 use Rattle.tf_history.specs.Legality.{is_stopped, is_started, is_active}
-use Rattle.tf_history.specs.LegalEntries.{has_date, has_id}
+use Rattle.tf_history.specs.LegalEntries.{has_date, has_id, is_in_shard}
 use Rattle.tf_history.specs.Meaning.{row_key}
 use Rattle.tf_core.specs.declared.transform.Transform.{Transform}
-use Rattle.tf_core.specs.Built.{is_built_index, is_built_config, fits_first, is_empty}
+use Rattle.tf_history.specs.Catalogue.{source_numbers}
+use Rattle.tf_history.specs.Transforms.{PutTransform}
+use Rattle.tf_mapping.specs.Documents.{reads, values_of}
+use Rattle.tf_mapping.specs.Routes.{shard_of}
+use Rattle.tf_mapping.specs.Written.{has_moment, is_written}
+use Rattle.tf_core.specs.Built.{are_readable, fits_indices, is_among, is_built_config, is_empty, lets_in}
+use Rattle.tf_core.specs.Summary.{put_of}
 use Rattle.tf_core.specs.Table.{transform_at}
-use Rattle.tf_core.specs.Values.{takes}
 
 -- a moment in range that is not before the last, and an actor
 abbrev pub is_timely : ℤ → ℤ → ℕ → Bool
@@ -49,9 +55,9 @@ abbrev pub is_free_name : List SourceIndex → List Transform → List ℕ → B
 is_free_name indices ts name = not (is_index indices name) && not (is_dest ts name)
 
 -- a stamp is a date field of the mapping
-abbrev pub has_stamp : SourceIndex → Option (List ℕ) → Bool
-has_stamp s None = true
-has_stamp s (Some field) = has_date s.mapping field
+abbrev pub is_stamp : Mapping → Option (List ℕ) → Bool
+is_stamp mapping None = true
+is_stamp mapping (Some field) = has_date mapping field
 
 abbrev pub is_field : List ℕ × FieldType → Bool
 is_field f = is_field_path f.0
@@ -60,33 +66,64 @@ abbrev pub takes_index : List SourceIndex → List Transform → SourceIndex →
 takes_index indices ts s =
     is_index_name s.name
     && (is_free_name indices ts s.name
+    && (nat_lt (length indices) 64
+    && (nat_le 1 s.shards
+    && (nat_le s.shards 16
     && (nat_le (length s.mapping.fields) 64
     && (list_all (λ f. is_field f) s.mapping.fields
-    && (not s.quick && is_built_index indices s.shards s.mapping s.stamp))))
+    && (is_stamp s.mapping s.stamp && not s.quick)))))))
 
 -- ---- documents
--- whether an index takes a tree, false where it is not there
-abbrev pub takes_tree : Option SourceIndex → Tree → Bool
-takes_tree None tree = false
-takes_tree (Some s) tree = takes s.mapping tree
+-- the values that a mapping reads from a tree, none where it does not read it
+abbrev pub read_in : Mapping → Tree → Option (List (List ℕ × Value))
+read_in mapping tree = if reads mapping None tree then Some (values_of mapping None tree) else None
+
+-- values, where the stamp has this moment among them
+abbrev pub if_stamped : Option (List ℕ) → ℤ → List (List ℕ × Value) → Option (List (List ℕ × Value))
+if_stamped stamp at_ms values = if has_moment stamp at_ms values then Some values else None
+
+-- the values of a tree that an index keeps, none where it does not
+abbrev pub written_in : SourceIndex → ℤ → Tree → Option (List (List ℕ × Value))
+written_in s at_ms tree = if is_written s.mapping s.stamp at_ms tree then Some (values_of s.mapping s.stamp tree) else None
+
+-- whether the transforms let in a document of an index
+abbrev pub is_let_in : List PutTransform → List Doc → ℕ → SourceIndex → Tree → Bool
+is_let_in puts docs index s tree = list_all (lets_in docs index (values_of s.mapping s.stamp tree)) puts
+
+-- the same by the values that were read, false where there are none
+abbrev pub lets_values_in : List PutTransform → List Doc → ℕ → Option (List (List ℕ × Value)) → Bool
+lets_values_in puts docs index None = false
+lets_values_in puts docs index (Some values) = list_all (lets_in docs index values) puts
 
 -- whether a document has an id in an index
 abbrev pub is_used : ℕ → List ℕ → List Doc → Bool
 is_used index id docs = list_any (has_id index id) docs
 
-abbrev pub takes_document : List SourceIndex → List Doc → ℕ → ℕ → ℕ → List ℕ → Tree → Bool
-takes_document indices docs index shard seq id tree =
-    nat_eq shard 0
-    && (nat_eq seq (length docs)
-    && (nat_lt seq (2 ^ 31)
-    && (nat_le 1 (length id)
-    && (nat_le (length id) 512
-    && (not (is_used index id docs) && takes_tree (slice_get indices index) tree)))))
+-- whether a document goes to this place of an index, and its id is new there
+abbrev pub has_place : SourceIndex → List Doc → ℕ → ℕ → ℕ → List ℕ → Bool
+has_place s docs index shard seq id =
+    nat_eq shard (shard_of id s.shards)
+    && (nat_eq seq (count_by (is_in_shard index shard) docs)
+    && (nat_lt seq (2 ^ 31) && (nat_le 1 (length id) && (nat_le (length id) 512 && not (is_used index id docs)))))
+
+-- whether an index takes a document at a moment
+abbrev pub takes_in : SourceIndex → List Doc → List PutTransform → ℤ → ℕ → ℕ → ℕ → List ℕ → Tree → Bool
+takes_in s docs puts at_ms index shard seq id tree =
+    has_place s docs index shard seq id && (is_written s.mapping s.stamp at_ms tree && is_let_in puts docs index s tree)
+
+abbrev pub takes_document : Option SourceIndex → List Doc → List PutTransform → ℤ → ℕ → ℕ → ℕ → List ℕ → Tree → Bool
+takes_document None docs puts at_ms index shard seq id tree = false
+takes_document (Some s) docs puts at_ms index shard seq id tree = takes_in s docs puts at_ms index shard seq id tree
 
 -- ---- transforms
-abbrev pub takes_transform : List SourceIndex → List Transform → List ℕ → Config → Bool
-takes_transform indices ts id config =
-    is_transform_id id && (is_built_config config && (fits_first config indices && (is_free_name indices ts config.dest && is_empty ts)))
+-- whether a transform is in order but for the documents that are there
+abbrev pub is_well_formed : List SourceIndex → List Transform → List ℕ → Config → Bool
+is_well_formed indices ts id config =
+    is_transform_id id && (is_built_config config && (fits_indices config indices && (is_free_name indices ts config.dest && is_empty ts)))
+
+abbrev pub takes_transform : List SourceIndex → List Doc → List Transform → List ℕ → Config → Bool
+takes_transform indices docs ts id config =
+    is_well_formed indices ts id config && are_readable config.shape (source_numbers indices config.sources) docs
 
 -- whether its checkpoint is finished and it makes no other
 abbrev pub is_over : Transform → Bool
@@ -151,9 +188,13 @@ may_page t n rows =
 abbrev pub may_finish : Transform → ℕ → Bool
 may_finish t n = is_running t n && is_active t.state
 
+-- the documents that the newest checkpoint of a transform reads
+abbrev pub read_by : Transform → List Doc → List Doc
+read_by t docs = filter (is_among t.sources) (take t.read docs)
+
 -- whether no changed key of a first checkpoint is above the position
 abbrev pub has_none_left : Transform → List Doc → Bool
-has_none_left t docs = is_empty (changed_above t.config None t.bound t.position (take t.read docs))
+has_none_left t docs = is_empty (changed_above t.config None t.bound t.position (read_by t docs))
 
 -- ---- entries
 -- what a test says of a transform, false where it is not there
@@ -165,15 +206,15 @@ test_at test (Some t) = test t
 abbrev pub may_be_finished : List Doc → List Transform → List ℕ → ℕ → Bool
 may_be_finished docs ts id n = test_at (λ t. may_finish t n && has_none_left t docs) (transform_at id ts)
 
--- whether what an entry does may be done now
-abbrev pub may_do : List SourceIndex → List Doc → List Transform → Kind → Bool
-may_do indices docs ts (kind.Index name shards mapping stamp quick) =
+-- whether what an entry does may be done at a moment
+abbrev pub may_do : List SourceIndex → List Doc → List Transform → ℤ → Kind → Bool
+may_do indices docs ts at_ms (kind.Index name shards mapping stamp quick) =
     takes_index indices ts (record { name = name; shards = shards; mapping = mapping; stamp = stamp; quick = quick })
-may_do indices docs ts (kind.Write index shard seq id tree) = takes_document indices docs index shard seq id tree
-may_do indices docs ts (kind.Put id config) = takes_transform indices ts id config
-may_do indices docs ts (kind.Start id) = test_at may_start (transform_at id ts)
-may_do indices docs ts (kind.Stopped id) = test_at may_stop (transform_at id ts)
-may_do indices docs ts (kind.Begin id n bound) = test_at (λ t. may_begin t n bound) (transform_at id ts)
-may_do indices docs ts (kind.Page id n rows) = test_at (λ t. may_page t n rows) (transform_at id ts)
-may_do indices docs ts (kind.Finish id n) = may_be_finished docs ts id n
-may_do indices docs ts _ = false
+may_do indices docs ts at_ms (kind.Write index shard seq id tree) = takes_document (slice_get indices index) docs (map put_of ts) at_ms index shard seq id tree
+may_do indices docs ts at_ms (kind.Put id config) = takes_transform indices docs ts id config
+may_do indices docs ts at_ms (kind.Start id) = test_at may_start (transform_at id ts)
+may_do indices docs ts at_ms (kind.Stopped id) = test_at may_stop (transform_at id ts)
+may_do indices docs ts at_ms (kind.Begin id n bound) = test_at (λ t. may_begin t n bound) (transform_at id ts)
+may_do indices docs ts at_ms (kind.Page id n rows) = test_at (λ t. may_page t n rows) (transform_at id ts)
+may_do indices docs ts at_ms (kind.Finish id n) = may_be_finished docs ts id n
+may_do indices docs ts at_ms _ = false

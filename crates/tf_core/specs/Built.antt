@@ -1,6 +1,6 @@
 -- The forms that are built: which entries the program takes beside what legality asks.
-use Rattle.std.specs.Prelude.{ℕ, pos, ◌==◌, Bool, true, false, not, ◌&&◌, List, [], ◌∷◌, Option, Some, None, is_none, if◌then◌else◌}
-use Rattle.std.specs.List.{list_all, list_any}
+use Rattle.std.specs.Prelude.{ℕ, pos, negsuc, ◌==◌, int_le, nat_eq, nat_le, nat_lt, Bool, true, false, not, ◌&&◌, ◌||◌, List, [], ◌∷◌, Option, Some, None, is_none, count_by, slice_get}
+use Rattle.std.specs.List.{find, list_all, list_any}
 use Rattle.std.specs.Ordering.{int_eq}
 use Rattle.std.specs.Str.{bytes_eq}
 use Rattle.tf_model.specs.declared.config.Agg.{Agg}
@@ -12,6 +12,7 @@ use Rattle.tf_model.specs.declared.config.GroupKind.{GroupKind}
 use Rattle.tf_model.specs.declared.config.GroupKind.TheVariants.{Terms}
 use Rattle.tf_model.specs.declared.config.Shape.{Shape}
 use Rattle.tf_model.specs.declared.config.Shape.TheVariants.{Pivot}
+use Rattle.tf_model.specs.declared.doc.Doc.{Doc}
 use Rattle.tf_model.specs.declared.entry.Entry.{Entry}
 use Rattle.tf_model.specs.declared.entry.Kind.{Kind}
 use Rattle.tf_model.specs.declared.entry.Kind.TheVariants as kind
@@ -21,32 +22,20 @@ use Rattle.tf_model.specs.declared.query.Mapping.{Mapping}
 use Rattle.tf_model.specs.declared.query.Query.{Query}
 use Rattle.tf_model.specs.declared.query.Query.TheVariants.{MatchAll}
 use Rattle.tf_model.specs.Keys.{groups_of}
-use Rattle.tf_model.specs.Names.{is_field_path, is_index_name}
+use Rattle.tf_model.specs.declared.value.Value.{Value}
+use Rattle.tf_model.specs.declared.value.Value.TheVariants as value
+use Rattle.tf_model.specs.Names.{is_index_name}
 use Rattle.tf_model.specs.Rows.{aggs_of}
-use Rattle.tf_history.specs.Catalogue.{SourceIndex, catalogue}
-use Rattle.tf_history.specs.Transforms.{transforms}
+use Rattle.tf_model.specs.Values.{type_of, value_at}
+use Rattle.tf_history.specs.Catalogue.{SourceIndex, catalogue, source_numbers, values_in}
+use Rattle.tf_history.specs.Lives.{documents}
+use Rattle.tf_history.specs.Reading.{events}
+use Rattle.tf_history.specs.Transforms.{PutTransform, transforms}
+use Rattle.tf_mapping.specs.Documents.{values_of}
 
 abbrev pub is_empty : {X : Type 0} → List X → Bool
 is_empty [] = true
 is_empty (x ∷ xs) = false
-
--- ---- indices
--- a field's name without dots (46)
-abbrev pub is_plain : List ℕ → Bool
-is_plain name = is_field_path name && not (list_any (λ byte. byte == 46) name)
-
-abbrev pub is_built_type : FieldType → Bool
-is_built_type Keyword = true
-is_built_type Long = true
-is_built_type _ = false
-
--- a field without dots that holds keywords or longs
-abbrev pub is_built_field : List ℕ × FieldType → Bool
-is_built_field field = is_plain field.0 && is_built_type field.1
-
--- the first index, with one shard and no stamp
-abbrev pub is_built_index : List SourceIndex → ℕ → Mapping → Option (List ℕ) → Bool
-is_built_index indices shards mapping stamp = is_empty indices && (shards == 1 && (is_none stamp && list_all is_built_field mapping.fields))
 
 -- ---- configurations
 abbrev pub is_match_all : Query → Bool
@@ -83,11 +72,6 @@ abbrev pub is_built_config : Config → Bool
 is_built_config c =
     has_one c.sources && (is_match_all c.query && (is_index_name c.dest && (is_built_shape c.shape && (is_none c.sync && (is_none c.retention && has_defaults c)))))
 
--- the type of a field
-abbrev pub type_at : List (List ℕ × FieldType) → List ℕ → Option FieldType
-type_at [] name = None
-type_at (field ∷ fields) name = if bytes_eq field.0 name then Some field.1 else type_at fields name
-
 abbrev pub is_keyword : Option FieldType → Bool
 is_keyword (Some Keyword) = true
 is_keyword _ = false
@@ -96,31 +80,69 @@ abbrev pub is_long : Option FieldType → Bool
 is_long (Some Long) = true
 is_long _ = false
 
-abbrev pub groups_keywords : Shape → List (List ℕ × FieldType) → Bool
-groups_keywords shape fields = list_all (λ (g : Group). is_keyword (type_at fields g.field)) (groups_of shape)
+abbrev pub groups_keywords : Shape → Mapping → Bool
+groups_keywords shape mapping = list_all (λ (g : Group). is_keyword (type_of mapping g.field)) (groups_of shape)
 
-abbrev pub sums_longs : Shape → List (List ℕ × FieldType) → Bool
-sums_longs shape fields = list_all (λ (a : Agg). is_long (type_at fields a.field)) (aggs_of shape)
+abbrev pub sums_longs : Shape → Mapping → Bool
+sums_longs shape mapping = list_all (λ (a : Agg). is_long (type_of mapping a.field)) (aggs_of shape)
 
--- the index is the configuration's one source, its groups are over keywords and its sums over longs, and its
--- destination has another name
-abbrev pub fits_index : Config → SourceIndex → Bool
-fits_index c index =
-    list_all (λ source. bytes_eq source index.name) c.sources
-    && (not (bytes_eq c.dest index.name)
-    && (groups_keywords c.shape index.mapping.fields
-    && sums_longs c.shape index.mapping.fields))
+-- a source is there, its groups are over keywords and its sums over longs
+abbrev pub fits_index : Config → Option SourceIndex → Bool
+fits_index c None = false
+fits_index c (Some index) = groups_keywords c.shape index.mapping && sums_longs c.shape index.mapping
 
-abbrev pub fits_first : Config → List SourceIndex → Bool
-fits_first c [] = false
-fits_first c (index ∷ indices) = fits_index c index
+-- an index with a name is such a source
+abbrev pub fits_name : Config → List SourceIndex → List ℕ → Bool
+fits_name c indices name = fits_index c (find (λ (s : SourceIndex). bytes_eq name s.name) indices)
+
+-- each source is such an index
+abbrev pub fits_indices : Config → List SourceIndex → Bool
+fits_indices c indices = list_all (fits_name c indices) c.sources
+
+-- ---- the documents of a transform
+abbrev pub is_text : Option Value → Bool
+is_text (Some (value.Str text)) = true
+is_text _ = false
+
+-- a whole number from -1,000,000,000 to 1,000,000,000
+abbrev pub is_small : Option Value → Bool
+is_small (Some (value.Int n)) = int_le (negsuc 999999999) n && int_le n (pos 1000000000)
+is_small _ = false
+
+abbrev pub have_texts : Shape → List (List ℕ × Value) → Bool
+have_texts shape values = list_all (λ (g : Group). is_text (value_at values g.field)) (groups_of shape)
+
+abbrev pub have_small : Shape → List (List ℕ × Value) → Bool
+have_small shape values = list_all (λ (a : Agg). is_small (value_at values a.field)) (aggs_of shape)
+
+-- values with a text in the field of each group, and a small number in that of each sum
+abbrev pub is_readable : Shape → List (List ℕ × Value) → Bool
+is_readable shape values = have_texts shape values && have_small shape values
+
+-- whether a document is in one of the indices with these numbers
+abbrev pub is_among : List ℕ → Doc → Bool
+is_among sources d = list_any (nat_eq d.index) sources
+
+-- a document is not in these indices, or it can be read
+abbrev pub is_readable_in : Shape → List ℕ → Doc → Bool
+is_readable_in shape sources d = not (is_among sources d) || is_readable shape d.values
+
+-- these indices have at most 500 documents, and each can be read
+abbrev pub are_readable : Shape → List ℕ → List Doc → Bool
+are_readable shape sources docs = nat_le (count_by (is_among sources) docs) 500 && list_all (is_readable_in shape sources) docs
+
+-- an index that a transform reads takes a document with these values: one that can be read, while there are fewer than 500
+abbrev pub lets_in : List Doc → ℕ → List (List ℕ × Value) → PutTransform → Bool
+lets_in docs index values p = not (list_any (nat_eq index) p.sources) || (nat_lt (count_by (is_among p.sources) docs) 500 && is_readable p.config.shape values)
 
 -- ---- entries
--- whether an entry is of a form that is built: one index, and one transform that is put and started once
+-- Whether an entry is of a form that is built: any index, any document that the transform over its index can read, and one
+-- transform that is put and started once.
 abbrev pub is_built : List Entry → Kind → Bool
-is_built past (kind.Index name shards mapping stamp quick) = is_built_index (catalogue past) shards mapping stamp
-is_built past (kind.Write index shard seq id tree) = true
-is_built past (kind.Put id config) = is_empty (transforms past)
+is_built past (kind.Index name shards mapping stamp quick) = true
+is_built past (kind.Write index shard seq id tree) =
+    list_all (lets_in (documents (events values_of past)) index (values_in values_of (slice_get (catalogue past) index) tree)) (transforms past)
+is_built past (kind.Put id config) = is_empty (transforms past) && are_readable config.shape (source_numbers (catalogue past) config.sources) (documents (events values_of past))
 is_built past (kind.Start id) = true
 is_built past (kind.Stopped id) = true
 is_built past (kind.Begin id n bound) = true

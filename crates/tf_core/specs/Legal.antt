@@ -5,8 +5,10 @@ use Rattle.tf_model.specs.Names.{is_transform_id, is_index_name, is_field_path}
 use Rattle.tf_history.specs.Events.{Event}
 use Rattle.tf_history.specs.LegalEntries.{Reading, IsLegalEntry}
 use Rattle.tf_history.specs.Reading.{events}
-use Rattle.tf_core.specs.Built.{is_built, is_built_config, fits_first}
-use Rattle.tf_core.specs.Values.{values_of, takes}
+use Rattle.tf_mapping.specs.Documents.{values_of}
+use Rattle.tf_mapping.specs.Routes.{shard_of}
+use Rattle.tf_mapping.specs.Written.{is_written}
+use Rattle.tf_core.specs.Built.{is_built, is_built_config, fits_indices}
 
 -- what is said of names, ids, configurations and documents, for the forms that are built
 unfoldable pub reading : Reading
@@ -15,9 +17,9 @@ reading = record {
   is_id = is_transform_id;
   is_name = is_index_name;
   is_field = is_field_path;
-  shard_of = λ id shards. 0;
-  is_config = λ indices config. is_built_config config && fits_first config indices;
-  is_read = λ index moment tree. takes index.mapping tree;
+  shard_of = shard_of;
+  is_config = λ indices config. is_built_config config && fits_indices config indices;
+  is_read = λ index moment tree. is_written index.mapping index.stamp moment tree;
 }
 
 -- a past, newest entry first, as the laws of checkpoints read it

@@ -1,4 +1,3 @@
-pub mod Values
 pub mod Built
 pub mod Legal
 pub mod BuiltPast
@@ -20,4 +19,4 @@ pub mod Moves
 pub mod Lookups
 pub mod Example
 pub mod Texts
-pub mod Commanded
+pub mod Suiting

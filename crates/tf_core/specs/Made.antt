@@ -1,5 +1,5 @@
 -- What is made for an entry.
-use Rattle.std.specs.Prelude.{◌≡◌, ℕ, ℤ, ◌+◌, ◌<◌, ◌≤◌, ⊤, List, [], length, vec_len, vec_capacity, Some, None}
+use Rattle.std.specs.Prelude.{◌≡◌, ℕ, ℤ, ◌+◌, ◌<◌, ◌≤◌, ⊤, true, IsSomeAnd, List, [], length, slice_get, vec_len, vec_capacity, Some, None}
 use Rattle.std.specs.Arc.{arc_value}
 use Rattle.tf_model.specs.declared.doc.Doc.{Doc}
 use Rattle.tf_model.specs.declared.config.Config.{Config}
@@ -10,6 +10,7 @@ use Rattle.tf_model.specs.declared.entry.Row.{Row}
 use Rattle.tf_history.specs.Catalogue.{SourceIndex, source_numbers}
 use Rattle.tf_history.specs.Configured.{meaning}
 use Rattle.tf_history.specs.Lives.{fresh, last_key}
+use Rattle.tf_mapping.specs.Documents.{reads}
 use Rattle.tf_core.specs.declared.kept.Kept.{Kept}
 use Rattle.tf_core.specs.declared.kept.Kept.TheVariants as kept
 use Rattle.tf_core.specs.declared.ready.Change.{Change}
@@ -23,11 +24,13 @@ use Rattle.tf_core.specs.Kept.{entry_of}
 use Rattle.tf_core.specs.Steps.{IsStep}
 use Rattle.tf_core.specs.Summary.{IsSummary}
 
--- what is asked of an entry that is prepared: no retention policy, and a Page with a row
-abbrev pub IsFit : Kind → Type 0
-IsFit (kind.Put id config) = config.retention ≡ None
-IsFit (kind.Page id n rows) = 0 < length rows
-IsFit _ = ⊤
+-- What is asked of an entry that is prepared where these indices are there: a document that its index reads, no retention
+-- policy, and a Page with a row.
+abbrev pub IsFit : List SourceIndex → Kind → Type 0
+IsFit indices (kind.Write index shard seq id tree) = IsSomeAnd (slice_get indices index) (λ s. reads s.mapping None tree ≡ true)
+IsFit indices (kind.Put id config) = config.retention ≡ None
+IsFit indices (kind.Page id n rows) = 0 < length rows
+IsFit indices _ = ⊤
 
 -- no Write
 abbrev pub IsOther : Kind → Type 0

@@ -1,5 +1,5 @@
 -- The entries that the indexer's moves make.
-use Rattle.std.specs.Prelude.{◌≡◌, ℕ, ℤ, pos, map, take, nat_lt, nat_eq, ◌&&◌, List, [], ◌∷◌, Option, Some, None, if◌then◌else◌}
+use Rattle.std.specs.Prelude.{◌≡◌, ℕ, ℤ, pos, int_le, map, take, nat_lt, nat_eq, ◌&&◌, List, [], ◌∷◌, Option, Some, None, if◌then◌else◌}
 use Rattle.std.specs.Option.{option_map, option_and_then}
 use Rattle.tf_model.specs.declared.config.Config.{Config}
 use Rattle.tf_model.specs.declared.doc.Doc.{Doc}
@@ -18,7 +18,7 @@ use Rattle.tf_core.specs.declared.moving.What.{What}
 use Rattle.tf_core.specs.declared.moving.What.TheVariants as what
 use Rattle.tf_core.specs.declared.transform.Transform.{Transform}
 use Rattle.tf_core.specs.Allowing.{may_stop}
-use Rattle.tf_model.specs.Conditions.{IsSpan}
+use Rattle.tf_model.specs.Conditions.{IsSpan, greatest_date}
 use Rattle.tf_history.specs.Legality.{IsNotBefore}
 use Rattle.tf_core.specs.Legal.{IsTaken, read}
 
@@ -26,6 +26,18 @@ use Rattle.tf_core.specs.Legal.{IsTaken, read}
 abbrev pub last_ms_in : List Entry → ℤ
 last_ms_in [] = pos 0
 last_ms_in (e ∷ past) = e.at_ms
+
+-- a given moment taken into the range of moments
+abbrev pub clamped : ℤ → ℤ
+clamped given = if int_le given (pos 0) then pos 0 else if int_le greatest_date given then greatest_date else given
+
+-- the later of two moments
+abbrev pub later : ℤ → ℤ → ℤ
+later last given = if int_le last given then given else last
+
+-- the moment of the next entry where a moment is given: it is in range, and not before the newest entry
+abbrev pub moment_after : List Entry → ℤ → ℤ
+moment_after past given = later (last_ms_in past) (clamped given)
 
 -- the actor of the indexer where one thread makes the entries
 abbrev pub indexer : ℕ

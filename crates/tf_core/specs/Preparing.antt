@@ -1,16 +1,16 @@
 -- What is prepared for entries.
-use Rattle.std.specs.Prelude.{◌≡◌, ℕ, ◌+◌, ⊤, List, [], ◌∷◌}
+use Rattle.std.specs.Prelude.{◌≡◌, ℕ, ◌+◌, ⊤, List, [], ◌∷◌, ◌++◌}
 use Rattle.std.specs.List.{AllByRecursion}
 use Rattle.tf_model.specs.declared.entry.Entry.{Entry}
-use Rattle.tf_history.specs.Catalogue.{SourceIndex}
+use Rattle.tf_history.specs.Catalogue.{SourceIndex, makes}
 use Rattle.tf_core.specs.declared.ready.Prepared.{Prepared}
 use Rattle.tf_core.specs.Chain.{AreSteps, PutHas, entries_in, row_count}
 use Rattle.tf_core.specs.Made.{IsFit, rows_of}
 
--- each of the entries is fit to be prepared
-abbrev pub AllFit : List Entry → Type 0
-AllFit [] = ⊤
-AllFit (e ∷ entries) = IsFit e.kind × AllFit entries
+-- each of the entries is fit to be prepared, where these indices are there before the first
+abbrev pub AllFit : List SourceIndex → List Entry → Type 0
+AllFit indices [] = ⊤
+AllFit indices (e ∷ entries) = IsFit indices e.kind × AllFit (indices ++ makes e.kind) entries
 
 -- how many rows entries can add
 abbrev pub rows_of_all : List Entry → ℕ

@@ -24,7 +24,7 @@ use Rattle.tf_core.specs.Places.{AreAscending}
 use Rattle.tf_core.specs.Late.{after_write}
 use Rattle.tf_core.specs.Summary.{IsSummary, put_of}
 use Rattle.tf_core.specs.Table.{is_other, place_in}
-use Rattle.tf_core.specs.Values.{values_of}
+use Rattle.tf_mapping.specs.Documents.{values_of}
 
 -- ---- a change of one transform
 -- the act that a change makes

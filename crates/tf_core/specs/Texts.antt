@@ -1,7 +1,6 @@
 -- The texts of documents and of rows.
 use Rattle.std.specs.Prelude.{◌≡◌, ℕ, ℤ, negsuc, pos, ◌≤◌, ◌<◌, ◌^◌, List, [], ◌∷◌, length, Option, Some, None, IsUtf8}
 use Rattle.std.specs.List.{AllByRecursion}
-use Rattle.std.specs.Option.{option_and_then}
 use Rattle.tf_model.specs.declared.doc.Doc.{Doc}
 use Rattle.tf_model.specs.declared.entry.Kind.{Kind}
 use Rattle.tf_model.specs.declared.entry.Kind.TheVariants as kind
@@ -11,12 +10,11 @@ use Rattle.tf_model.specs.declared.value.Key.{Key}
 use Rattle.tf_model.specs.declared.value.Value.{Value}
 use Rattle.tf_model.specs.declared.value.Value.TheVariants as value
 use Rattle.tf_model.specs.Conditions.{IsBetween}
-use Rattle.tf_model.specs.Trees as trees
-use Rattle.tf_model.specs.Trees.{member_of}
+use Rattle.tf_model.specs.Values.{value_of}
 
--- P is known of each text that is a member of a document
+-- P is known of each text that is a value of a document
 abbrev pub HasTexts : (List ℕ → Type 0) → Doc → Type 0
-HasTexts P d = (name u : List ℕ) → option_and_then trees.text_in (member_of d.tree name) ≡ Some u → P u
+HasTexts P d = (field u : List ℕ) → value_of d field ≡ Some (value.Str u) → P u
 
 -- a missing value, or a text of which P is known
 abbrev pub IsTextOf : (List ℕ → Type 0) → Option Value → Type 0

@@ -1,32 +1,45 @@
 // Whether an entry is taken, kind by kind.
-ghost use Rattle.std.specs.Prelude.{◌≡◌};
-ghost use Rattle.std.specs.List.{list_all};
+ghost use Rattle.std.specs.Prelude.{◌≡◌, ◌&&◌, IfOk, map, slice_get};
+ghost use Rattle.std.specs.List.{AllByRecursion, list_all, list_any};
 ghost use Rattle.std.specs.Option.{option_copied};
+ghost use Rattle.std.specs.Str.{bytes_eq};
 ghost use Rattle.tf_core.specs.Allowing as spec;
+ghost use Rattle.tf_core.specs.BuiltPast.{HasShard};
 ghost use Rattle.tf_core.specs.Ids.{AreIndexed};
+ghost use Rattle.tf_core.specs.Lookups.{AreNumbered};
 ghost use Rattle.tf_core.specs.Standing.{shared};
+ghost use Rattle.tf_core.specs.Summary.{put_of};
 ghost use Rattle.tf_model.specs.Changed.{is_after as after};
 ghost use Rattle.tf_history.specs.Legality as legality;
+ghost use Rattle.tf_history.specs.LegalEntries as legal;
 
-use crate::built::{fits_first, is_built_config, is_built_index};
+use crate::built::{fits_indices, is_built_config};
+use crate::catalogue::source_numbers;
 use crate::ids::Ids;
 use crate::index::Index;
-use crate::lookups::place_in;
+use crate::lookups::{place_in, seq_after};
 use crate::names::is_free;
+use crate::readable::{are_let_in, are_readable};
 use crate::rows::key;
 use crate::transform::Transform;
-use crate::values::takes;
+use crate::trees::written_values;
 use std::alloc::Global;
 use std::cmp::Ordering;
 use std::sync::Arc;
+use tf_mapping::route;
 use tf_model::{
-    Agg, Config, Doc, FieldType, Group, Key, Mapping, Row, Shape, State, Text, Tree, Value,
-    is_field_path, is_index_name, is_transform_id,
+    Agg, Config, Doc, FieldType, Group, Key, List, Mapping, OutOfMemory, Row, Shape, State, Text,
+    Tree, Value, is_field_path, is_index_name, is_transform_id,
 };
 
 const LEAST_DATE: i64 = -62_167_219_200_000;
 
-const GREATEST_DATE: i64 = 253_402_300_799_999;
+/// The greatest moment, the end of the year 9999.
+pub const GREATEST_DATE: i64 = 253_402_300_799_999;
+
+const MAX_INDICES: usize = 64;
+
+const MAX_SHARDS: u32 = 16;
 
 const MAX_FIELDS: usize = 64;
 
@@ -57,10 +70,13 @@ pub fn takes_index(
 {
     is_index_name(name.as_str())
         && is_free(indices, transforms, name)
+        && indices.len() < MAX_INDICES
+        && 1 <= shards
+        && shards <= MAX_SHARDS
         && mapping.fields.len() <= MAX_FIELDS
         && are_fields(mapping.fields.as_slice())
+        && has_stamp(mapping, stamp)
         && !quick
-        && is_built_index(indices, shards, mapping, stamp)
 }
 
 fn are_fields(fields: &[(Text, FieldType)]) -> bool
@@ -75,50 +91,149 @@ fn is_field(field: &(Text, FieldType)) -> bool
     is_field_path(field.0.as_str())
 }
 
-/// Whether a document may be written.
+// Whether the stamp, where there is one, is a date field of the mapping.
+fn has_stamp(mapping: &Mapping, stamp: &Option<Text>) -> bool
+    ensures { result ≡ spec.is_stamp mapping.now stamp.now }
+{
+    match stamp {
+        None => true,
+        Some(field) => has_date(mapping.fields.as_slice(), field),
+    }
+}
+
+fn has_date(fields: &[(Text, FieldType)], name: &Text) -> bool
+    ensures { result ≡ list_any (λ f. bytes_eq name.now f.0 && legal.is_date f.1) fields.now }
+{
+    for field in fields {
+        if *name == field.0 && is_date(field.1) {
+            return true;
+        }
+    }
+    false
+}
+
+fn is_date(kind: FieldType) -> bool
+    ensures { result ≡ legal.is_date kind }
+{
+    match kind {
+        FieldType::Date => true,
+        FieldType::Keyword | FieldType::Long | FieldType::Boolean => false,
+    }
+}
+
+/// Whether a document may be written at a moment. Want of memory may come where its tree is read.
 pub fn takes_document(
-    indices: &[Index],
+    alloc: Global,
     ids: &Ids,
+    indices: &[Index],
     docs: &[Arc<Doc, Global>],
+    transforms: &[Transform],
+    at_ms: i64,
     index: u32,
     shard: u32,
     seq: u64,
     id: &Text,
     tree: &Tree,
-) -> bool
-    requires { AreIndexed ids.now (shared docs.now) }
-    ensures { result ≡ spec.takes_document indices.now (shared docs.now) index shard seq id.now tree.now }
+) -> Result<bool, OutOfMemory>
+    requires shards { AllByRecursion HasShard indices.now }
+    requires indexed { AreIndexed ids.now (shared docs.now) }
+    requires numbered { AreNumbered (shared docs.now) }
+    ensures { IfOk result (λ takes. takes ≡ spec.takes_document (slice_get indices.now index) (shared docs.now) (map put_of transforms.now) at_ms index shard seq id.now tree.now) }
 {
-    shard == 0
-        && seq == docs.len() as u64
+    match indices.get(index as usize) {
+        None => Ok(false),
+        Some(found) => takes_in(
+            alloc, ids, found, docs, transforms, at_ms, index, shard, seq, id, tree,
+        ),
+    }
+}
+
+fn takes_in(
+    alloc: Global,
+    ids: &Ids,
+    found: &Index,
+    docs: &[Arc<Doc, Global>],
+    transforms: &[Transform],
+    at_ms: i64,
+    index: u32,
+    shard: u32,
+    seq: u64,
+    id: &Text,
+    tree: &Tree,
+) -> Result<bool, OutOfMemory>
+    requires shards { HasShard found.now }
+    requires indexed { AreIndexed ids.now (shared docs.now) }
+    requires numbered { AreNumbered (shared docs.now) }
+    ensures { IfOk result (λ takes. takes ≡ spec.takes_in found.now (shared docs.now) (map put_of transforms.now) at_ms index shard seq id.now tree.now) }
+{
+    if !has_place(ids, found, docs, index, shard, seq, id) {
+        return Ok(false);
+    }
+    let values = written_values(alloc, found, at_ms, tree)?;
+    Ok(is_let_in(transforms, docs, index, values.as_ref()))
+}
+
+// Whether a document goes to this place of an index, and its id is new there.
+fn has_place(
+    ids: &Ids,
+    found: &Index,
+    docs: &[Arc<Doc, Global>],
+    index: u32,
+    shard: u32,
+    seq: u64,
+    id: &Text,
+) -> bool
+    requires shards { HasShard found.now }
+    requires indexed { AreIndexed ids.now (shared docs.now) }
+    requires numbered { AreNumbered (shared docs.now) }
+    ensures { result ≡ spec.has_place found.now (shared docs.now) index shard seq id.now }
+{
+    shard == route(id, found.shards())
+        && seq == seq_after(docs, index, shard)
         && seq < MAX_DOCS
         && 1 <= id.as_str().len()
         && id.as_str().len() <= MAX_ID
         && !is_used(ids, docs, index, id)
-        && takes_tree(indices.get(index as usize), tree)
 }
 
-fn takes_tree(index: Option<&Index>, tree: &Tree) -> bool
-    ensures { result ≡ spec.takes_tree (option_copied index.entry) tree.now }
+fn is_let_in(
+    transforms: &[Transform],
+    docs: &[Arc<Doc, Global>],
+    index: u32,
+    values: Option<&List<(Text, Value)>>,
+) -> bool
+    ensures { result ≡ spec.lets_values_in (map put_of transforms.now) (shared docs.now) index (option_copied values.entry) }
 {
-    match index {
-        Some(index) => takes(index.mapping(), tree),
+    match values {
+        Some(values) => are_let_in(transforms, docs, index, values.as_slice()),
         None => false,
     }
 }
 
-/// Whether a transform may be put.
+/// Whether a transform may be put. Want of memory may come where its sources are looked up.
 pub fn takes_transform(
+    alloc: Global,
     indices: &[Index],
+    docs: &[Arc<Doc, Global>],
     transforms: &[Transform],
     id: &Text,
     config: &Config,
-) -> bool
-    ensures { result ≡ spec.takes_transform indices.now transforms.now id.now config.now }
+) -> Result<bool, OutOfMemory>
+    ensures { IfOk result (λ takes. takes ≡ spec.takes_transform indices.now (shared docs.now) transforms.now id.now config.now) }
+{
+    if !is_well_formed(indices, transforms, id, config) {
+        return Ok(false);
+    }
+    let sources = source_numbers(alloc, indices, config.sources.as_slice())?;
+    Ok(are_readable(&config.shape, sources.as_slice(), docs))
+}
+
+fn is_well_formed(indices: &[Index], transforms: &[Transform], id: &Text, config: &Config) -> bool
+    ensures { result ≡ spec.is_well_formed indices.now transforms.now id.now config.now }
 {
     is_transform_id(id.as_str())
         && is_built_config(config)
-        && fits_first(config, indices)
+        && fits_indices(config, indices)
         && is_free(indices, transforms, &config.dest)
         && transforms.is_empty()
 }

@@ -1,67 +1,18 @@
 // The forms that are built.
-ghost use Rattle.std.specs.Prelude.{◌≡◌, ◌==◌};
-ghost use Rattle.tf_core.specs.Built as spec;
-ghost use Rattle.std.specs.List.{list_all, list_any};
+ghost use Rattle.std.specs.Prelude.{◌≡◌};
+ghost use Rattle.std.specs.List.{find};
+ghost use Rattle.std.specs.Option.{option_copied};
 ghost use Rattle.std.specs.Str.{bytes_eq};
+ghost use Rattle.tf_core.specs.Built as spec;
 
 use crate::index::Index;
 use tf_model::{
-    Agg, AggKind, Config, FieldType, Group, GroupKind, Mapping, Query, Shape, Text, is_field_path,
-    is_index_name,
+    Agg, AggKind, Config, FieldType, Group, GroupKind, Mapping, Query, Shape, Text, is_index_name,
 };
 
 const FREQUENCY_MS: i64 = 60_000;
 
 const PAGE_SIZE: u32 = 500;
-
-/// Whether this may be the first index: it has one shard and no stamp, and its fields hold keywords or longs.
-pub fn is_built_index(
-    indices: &[Index],
-    shards: u32,
-    mapping: &Mapping,
-    stamp: &Option<Text>,
-) -> bool
-    ensures { result ≡ spec.is_built_index indices.now shards mapping.now stamp.now }
-{
-    indices.is_empty()
-        && shards == 1
-        && stamp.is_none()
-        && are_built_fields(mapping.fields.as_slice())
-}
-
-fn are_built_fields(fields: &[(Text, FieldType)]) -> bool
-    ensures { result ≡ list_all spec.is_built_field fields.now }
-{
-    fields.iter().all(|field| is_built_field(field))
-}
-
-fn is_built_field(field: &(Text, FieldType)) -> bool
-    ensures { result ≡ spec.is_built_field field.now }
-{
-    is_plain(field.0.as_str()) && is_built_type(field.1)
-}
-
-// A field's name without dots.
-fn is_plain(name: &str) -> bool
-    ensures { result ≡ spec.is_plain name.now }
-{
-    is_field_path(name) && !has_dot(name.as_bytes())
-}
-
-fn has_dot(name: &[u8]) -> bool
-    ensures { result ≡ list_any (λ byte. byte == 46) name.now }
-{
-    name.iter().any(|byte| *byte == b'.')
-}
-
-fn is_built_type(kind: FieldType) -> bool
-    ensures { result ≡ spec.is_built_type kind }
-{
-    match kind {
-        FieldType::Keyword | FieldType::Long => true,
-        FieldType::Boolean | FieldType::Date => false,
-    }
-}
 
 /// Whether a configuration is a batch pivot of one index by the terms of one field, with one sum and every default.
 pub fn is_built_config(config: &Config) -> bool
@@ -138,60 +89,66 @@ fn is_sum(kind: AggKind) -> bool
     }
 }
 
-/// Whether a configuration reads the first index alone, groups by keywords and sums longs, and has a destination of
-/// another name.
-pub fn fits_first(config: &Config, indices: &[Index]) -> bool
-    ensures { result ≡ spec.fits_first config.now indices.now }
+/// Whether each source of a configuration is there, its groups are over keywords and its sums over longs.
+pub fn fits_indices(config: &Config, indices: &[Index]) -> bool
+    ensures { result ≡ spec.fits_indices config.now indices.now }
 {
-    match indices {
-        [] => false,
-        [index, ..] => fits_index(config, index),
-    }
+    config
+        .sources
+        .as_slice()
+        .iter()
+        .all(|name| fits_name(config, indices, name))
 }
 
-fn fits_index(config: &Config, index: &Index) -> bool
-    ensures { result ≡ spec.fits_index config.now index.now }
+fn fits_name(config: &Config, indices: &[Index], name: &Text) -> bool
+    ensures { result ≡ spec.fits_name config.now indices.now name.now }
 {
-    let name = index.name().as_str();
-    let fields = index.mapping().fields.as_slice();
-    reads_only(config.sources.as_slice(), name)
-        && config.dest.as_str() != name
-        && groups_keywords(&config.shape, fields)
-        && sums_longs(&config.shape, fields)
+    fits_index(config, index_named(indices, name))
 }
 
-// Whether every source has this name.
-fn reads_only(sources: &[Text], name: &str) -> bool
-    ensures { result ≡ list_all (λ source. bytes_eq source name.now) sources.now }
+fn index_named<'a>(indices: &'a [Index], name: &Text) -> Option<&'a Index>
+    ensures { option_copied result ≡ find (λ s. bytes_eq name.now s.name) indices.now }
 {
-    for source in sources {
-        if source.as_str() != name {
-            return false;
+    for index in indices {
+        if *name == *index.name() {
+            return Some(index);
         }
     }
-    true
+    None
 }
 
-fn groups_keywords(shape: &Shape, fields: &[(Text, FieldType)]) -> bool
-    ensures { result ≡ spec.groups_keywords shape.now fields.now }
+fn fits_index(config: &Config, index: Option<&Index>) -> bool
+    ensures { result ≡ spec.fits_index config.now (option_copied index.entry) }
+{
+    match index {
+        Some(index) => {
+            groups_keywords(&config.shape, index.mapping())
+                && sums_longs(&config.shape, index.mapping())
+        }
+        None => false,
+    }
+}
+
+fn groups_keywords(shape: &Shape, mapping: &Mapping) -> bool
+    ensures { result ≡ spec.groups_keywords shape.now mapping.now }
 {
     match shape {
         Shape::Pivot { groups, .. } => groups
             .as_slice()
             .iter()
-            .all(|group| is_keyword(type_at(fields, group.field.as_str()))),
+            .all(|group| is_keyword(mapping.type_of(&group.field))),
         Shape::Latest { .. } => true,
     }
 }
 
-fn sums_longs(shape: &Shape, fields: &[(Text, FieldType)]) -> bool
-    ensures { result ≡ spec.sums_longs shape.now fields.now }
+fn sums_longs(shape: &Shape, mapping: &Mapping) -> bool
+    ensures { result ≡ spec.sums_longs shape.now mapping.now }
 {
     match shape {
         Shape::Pivot { aggs, .. } => aggs
             .as_slice()
             .iter()
-            .all(|agg| is_long(type_at(fields, agg.field.as_str()))),
+            .all(|agg| is_long(mapping.type_of(&agg.field))),
         Shape::Latest { .. } => true,
     }
 }
@@ -212,16 +169,4 @@ fn is_long(kind: Option<FieldType>) -> bool
         Some(FieldType::Long) => true,
         _ => false,
     }
-}
-
-// The type of a field.
-fn type_at(fields: &[(Text, FieldType)], name: &str) -> Option<FieldType>
-    ensures { result ≡ spec.type_at fields.now name.now }
-{
-    for field in fields {
-        if field.0.as_str() == name {
-            return Some(field.1);
-        }
-    }
-    None
 }

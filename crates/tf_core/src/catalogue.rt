@@ -1,12 +1,13 @@
 // The indices that are there while entries are prepared: those of the history, and those that the entries before make.
-ghost use Rattle.std.specs.Prelude.{◌≡◌, ◌++◌, ◌+◌, ◌<◌, ◌^◌, slice_get, option_map};
+ghost use Rattle.std.specs.Prelude.{◌≡◌, ◌++◌, ◌+◌, ◌<◌, ◌^◌, IfOk, slice_get, option_map};
 ghost use Rattle.std.specs.Option.{option_copied};
 ghost use Rattle.tf_history.specs.Catalogue as spec;
 ghost use Rattle.tf_core.specs.Chain.{all_added};
 
 use crate::index::Index;
 use crate::ready::{Prepared, Step};
-use tf_model::Text;
+use std::alloc::Global;
+use tf_model::{List, OutOfMemory, Text};
 
 /// The index with a number.
 pub fn index_at<'a>(indices: &'a [Index], steps: &'a [Prepared], at: usize) -> Option<&'a Index>
@@ -54,6 +55,23 @@ pub fn number_in(indices: &[Index], name: &Text) -> Option<u64>
         }
     }
     None
+}
+
+/// The numbers of the indices with these names, of those that are there.
+pub fn source_numbers(
+    alloc: Global,
+    indices: &[Index],
+    names: &[Text],
+) -> Result<List<u64>, OutOfMemory>
+    ensures { IfOk result (λ numbers. numbers ≡ spec.source_numbers indices.now names.now) }
+{
+    let mut numbers = List::new(alloc);
+    for name in names {
+        if let Some(number) = number_in(indices, name) {
+            numbers.push(number)?;
+        }
+    }
+    Ok(numbers)
 }
 
 fn number_made(steps: &[Prepared], name: &Text, first: u64) -> Option<u64>

@@ -40,7 +40,8 @@ fn is_late(transform: &Transform, doc: &Doc) -> bool
         && is_below(&transform.config, transform.bound, doc)
 }
 
-fn is_among(sources: &[u64], index: u32) -> bool
+/// Whether a number is one of these.
+pub fn is_among(sources: &[u64], index: u32) -> bool
     ensures { result ≡ list_any (nat_eq index) sources.now }
 {
     for source in sources {

@@ -29,7 +29,8 @@ use tf_model::{Doc, Text};
 impl Core {
     /// How many documents were written.
     pub fn written(&self) -> u64
-        ensures { result ≡ length (docs_in self.now.history) }
+        ensures count { result ≡ length (docs_in self.now.history) }
+        ensures few { result < 2 ^ 63 }
     {
         self.docs.len() as u64
     }
@@ -91,7 +92,8 @@ fn newest(transforms: &[Transform]) -> Option<&Transform>
     }
 }
 
-fn seq_after(docs: &[Arc<Doc, Global>], index: u32, shard: u32) -> u64
+/// How many documents a shard of an index has: the number of the last one and one more, 0 where it has none.
+pub fn seq_after(docs: &[Arc<Doc, Global>], index: u32, shard: u32) -> u64
     requires numbered { AreNumbered (shared docs.now) }
     requires few { length docs.now < 2 ^ 63 }
     ensures { result ≡ count_by (is_in_shard index shard) (shared docs.now) }

@@ -1,21 +1,19 @@
 // The indexer's next move.
-ghost use Rattle.std.specs.Prelude.{◌≡◌, ◌≤ℤ◌, ℤ, IfOk, IfSome, Some, reverse};
+ghost use Rattle.std.specs.Prelude.{◌≡◌, ℤ, IfOk, IfSome, Some, reverse};
 ghost use Rattle.std.specs.Option.{option_and_then, option_map};
-ghost use Rattle.tf_model.specs.Conditions.{IsSpan};
 ghost use Rattle.tf_history.specs.Legality.{next_move};
 ghost use Rattle.tf_core.specs.declared.moving.What.TheVariants as what;
-ghost use Rattle.tf_core.specs.Held.{last_ms_of};
-ghost use Rattle.tf_core.specs.Kept.{history_in, past_in};
+ghost use Rattle.tf_core.specs.Kept.{past_in};
 ghost use Rattle.tf_core.specs.Legal.{IsTaken, read};
 ghost use Rattle.tf_core.specs.Moves as spec;
-ghost use Rattle.tf_core.specs.Moves.{IsTakenAtOnce, kind_of, last_ms_in};
+ghost use Rattle.tf_core.specs.Moves.{IsTakenAtOnce, kind_of, moment_after};
 ghost use Rattle.std.specs.List.{AllByRecursion};
 ghost use Rattle.tf_history.specs.Lives.{documents};
 ghost use Rattle.tf_core.specs.Standing.{Stands, shared};
 ghost use Rattle.tf_core.specs.Texts.{HasShortRows, HasTexts, IsShort};
 ghost use Rattle.tf_core.specs.Table.{transform_at};
 
-use crate::allowing::{is_active, is_started, may_stop};
+use crate::allowing::{GREATEST_DATE, is_active, is_started, may_stop};
 use crate::index::Index;
 use crate::kept::Kept;
 use crate::paging::next_rows;
@@ -121,10 +119,18 @@ fn page_kind(
 }
 
 impl Core {
-    /// The entry of the next move of a transform at the moment of the last entry, none where it has none. The entry is
+    /// The moment of an entry that comes next, where a moment is given: it is in the range of moments, and not before the
+    /// last entry.
+    pub fn moment(&self, now: i64) -> i64
+        ensures { result ≡ moment_after (reverse self.now.history) now }
+    {
+        moment_of(self.entries.as_slice(), now)
+    }
+
+    /// The entry of the next move of a transform at the moment that a given one makes, none where it has none. The entry is
     /// taken next. Where the texts of documents have lengths that fit four bytes, so have those of a page's rows.
-    pub fn next_entry(&self, id: &Text) -> Result<Option<Entry>, OutOfMemory>
-        ensures next { IfOk result (λ entry. entry ≡ spec.move id.now (reverse self.now.history) (last_ms_in (reverse self.now.history))) }
+    pub fn next_entry(&self, id: &Text, now: i64) -> Result<Option<Entry>, OutOfMemory>
+        ensures next { IfOk result (λ entry. entry ≡ spec.move id.now (reverse self.now.history) (moment_after (reverse self.now.history) now)) }
         ensures taken { IfOk result (λ entry. IfSome entry (IsTaken (reverse self.now.history))) }
         ensures short { AllByRecursion (HasTexts IsShort) (documents (read (reverse self.now.history))) → IfOk result (λ entry. IfSome entry (λ e. HasShortRows e.kind)) }
     {
@@ -134,7 +140,9 @@ impl Core {
         let transforms = self.transforms.as_slice();
         match find(transforms, id) {
             None => Ok(None),
-            Some(found) => next_of(self.alloc, entries, indices, docs, transforms, id, found),
+            Some(found) => next_of(
+                self.alloc, entries, indices, docs, transforms, id, found, now,
+            ),
         }
     }
 }
@@ -148,25 +156,49 @@ fn next_of(
     transforms: &[Transform],
     id: &Text,
     found: &Transform,
+    now: i64,
 ) -> Result<Option<Entry>, OutOfMemory>
     requires stands { Stands (past_in entries.now) indices.now (shared docs.now) transforms.now }
     requires found { transform_at id.now transforms.now ≡ Some found.now }
-    ensures next { IfOk result (λ entry. entry ≡ spec.move id.now (past_in entries.now) (last_ms_in (past_in entries.now))) }
+    ensures next { IfOk result (λ entry. entry ≡ spec.move id.now (past_in entries.now) (moment_after (past_in entries.now) now)) }
     ensures taken { IfOk result (λ entry. IfSome entry (IsTaken (past_in entries.now))) }
     ensures short { AllByRecursion (HasTexts IsShort) (shared docs.now) → IfOk result (λ entry. IfSome entry (λ e. HasShortRows e.kind)) }
 {
     let kind = next_kind(alloc, entries, indices, docs, transforms, id, found)?;
-    Ok(entry_of(entries, kind))
+    Ok(entry_of(moment_of(entries, now), kind))
 }
 
 // An entry of the indexer.
-fn entry_of(entries: &[Kept], kind: Option<Kind>) -> Option<Entry>
-    ensures { result ≡ option_map (spec.moved (last_ms_of (history_in entries.now))) kind }
+fn entry_of(at_ms: i64, kind: Option<Kind>) -> Option<Entry>
+    ensures { result ≡ option_map (spec.moved at_ms) kind }
 {
     let kind = kind?;
     Some(Entry {
-        at_ms: last_moment(entries),
+        at_ms,
         actor: INDEXER,
         kind,
     })
+}
+
+// The moment of an entry after these, where a moment is given.
+#[tactic(auto, using(crate::proofs::LastMoment::now_is, crate::proofs::LastMoment::last_is))]
+fn moment_of(entries: &[Kept], now: i64) -> i64
+    ensures { result ≡ moment_after (past_in entries.now) now }
+{
+    let last = last_moment(entries);
+    let now = clamped(now);
+    if last <= now { now } else { last }
+}
+
+// A moment taken into the range of moments.
+fn clamped(now: i64) -> i64
+    ensures { result ≡ spec.clamped now }
+{
+    if now <= 0 {
+        0
+    } else if GREATEST_DATE <= now {
+        GREATEST_DATE
+    } else {
+        now
+    }
 }

@@ -1,11 +1,12 @@
 // The rows of the next page.
-ghost use Rattle.std.specs.Prelude.{◌≡◌, ◌<◌, ◌≤◌, ◌^◌, IfOk, None, take, length};
+ghost use Rattle.std.specs.Prelude.{◌≡◌, ◌<◌, ◌≤◌, IfOk, None, length};
 ghost use Rattle.std.specs.Option.{option_copied};
 ghost use Rattle.tf_model.specs.Conditions.{AllFit, IsInRange};
 ghost use Rattle.tf_model.specs.Counted.{counted};
 ghost use Rattle.tf_model.specs.Rows.{sum_range};
 ghost use Rattle.tf_model.specs.declared.value.Key.{Key as K};
 ghost use Rattle.tf_reader.specs.Places.{documents};
+ghost use Rattle.tf_core.specs.Allowing.{read_by};
 ghost use Rattle.tf_core.specs.Moves.{IsPage};
 ghost use Rattle.tf_core.specs.Standing.{shared};
 
@@ -31,12 +32,12 @@ pub fn next_rows(
 ) -> Result<List<Row>, OutOfMemory>
     requires config { IsInRange transform.now.config }
     requires within { transform.now.read ≤ length docs.now }
-    requires few { length docs.now ≤ 2 ^ 31 }
-    requires fit { AllFit transform.now.config (take transform.now.read (shared docs.now)) }
-    requires ranges { (k : K) → sum_range transform.now.config k (counted transform.now.config None (take transform.now.read (shared docs.now))) ≡ None }
-    ensures { IfOk result (IsPage transform.now.config transform.now.position (take transform.now.read (shared docs.now))) }
+    requires few { length (read_by transform.now (shared docs.now)) ≤ 500 }
+    requires fit { AllFit transform.now.config (read_by transform.now (shared docs.now)) }
+    requires ranges { (k : K) → sum_range transform.now.config k (counted transform.now.config None (read_by transform.now (shared docs.now))) ≡ None }
+    ensures { IfOk result (IsPage transform.now.config transform.now.position (read_by transform.now (shared docs.now))) }
 {
-    let reader = reader_of(alloc, docs, transform.read)?;
+    let reader = reader_of(alloc, transform, docs)?;
     let rows = rows_from::<Brand>(
         alloc,
         &reader,

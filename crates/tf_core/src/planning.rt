@@ -18,7 +18,7 @@ pub fn step_of(
     entry: &Entry,
 ) -> Result<Step, OutOfMemory>
     requires other { IsOther entry.now.kind }
-    requires fit { IsFit entry.now.kind }
+    requires fit { IsFit (indices.now ++ all_added steps.now) entry.now.kind }
     ensures { IfOk result (IsStepFor (indices.now ++ all_added steps.now) room entry.now) }
 {
     match &entry.kind {

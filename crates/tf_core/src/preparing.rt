@@ -32,7 +32,7 @@ pub fn make_ready(
     ids: &mut Ids,
     more: List<Entry>,
 ) -> Result<Vec<Prepared>, OutOfMemory>
-    requires fit { AllFit more }
+    requires fit { AllFit indices.old.items more }
     requires new { (steps : List Prepared) → ArePrepared indices.old.items more steps → AreNew (shared docs.old.items) steps }
     requires indexed { AreIndexed ids.old (shared docs.old.items) }
     ensures entries { entries.new.items ≡ entries.old.items }
@@ -56,7 +56,7 @@ pub fn prepare_all(
     indices: &[Index],
     entries: List<Entry>,
 ) -> Result<Vec<Prepared>, OutOfMemory>
-    requires { AllFit entries }
+    requires { AllFit indices.now entries }
     ensures { IfOk result (λ steps. ArePrepared indices.now entries steps.items) }
 {
     let room = rows_of_all(entries.as_slice())?;
@@ -70,7 +70,7 @@ fn prepare_each(
     room: usize,
     entries: List<Entry>,
 ) -> Result<Vec<Prepared>, OutOfMemory>
-    requires fit { AllFit entries }
+    requires fit { AllFit indices.now entries }
     requires room { room ≡ spec.rows_of_all entries }
     ensures { IfOk result (λ steps. ArePrepared indices.now entries steps.items) }
 {
@@ -120,7 +120,7 @@ fn prepare(
     room: usize,
     entry: Entry,
 ) -> Result<Prepared, OutOfMemory>
-    requires { IsFit entry.kind }
+    requires { IsFit (indices.now ++ all_added steps.now) entry.kind }
     ensures { IfOk result (IsPreparedFor (indices.now ++ all_added steps.now) room entry) }
 {
     let Entry { at_ms, actor, kind } = entry;
@@ -148,7 +148,7 @@ fn whole(
     entry: Entry,
 ) -> Result<Prepared, OutOfMemory>
     requires other { IsOther entry.kind }
-    requires fit { IsFit entry.kind }
+    requires fit { IsFit (indices.now ++ all_added steps.now) entry.kind }
     ensures { IfOk result (IsPreparedFor (indices.now ++ all_added steps.now) room entry) }
 {
     let step = step_of(alloc, indices, steps, room, &entry)?;

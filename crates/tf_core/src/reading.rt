@@ -1,14 +1,15 @@
 // The documents that a checkpoint reads.
-ghost use Rattle.std.specs.Prelude.{◌≡◌, ◌<◌, ◌≤◌, ◌^◌, IfOk, None, take, length, map};
+ghost use Rattle.std.specs.Prelude.{◌≡◌, ◌<◌, ◌≤◌, ◌++◌, ◌∷◌, [], IfOk, OnOk, None, filter, take, length, map};
 ghost use Rattle.std.specs.Arc.{arc_value};
 ghost use Rattle.std.specs.Option.{option_copied};
 ghost use Rattle.tf_model.specs.Changed.{changed_above};
 ghost use Rattle.tf_model.specs.Conditions.{AllFit, IsInRange};
 ghost use Rattle.tf_reader.specs.Places.{documents};
-ghost use Rattle.tf_core.specs.Allowing.{has_none_left};
-ghost use Rattle.tf_core.specs.Built.{is_empty};
+ghost use Rattle.tf_core.specs.Allowing.{has_none_left, read_by};
+ghost use Rattle.tf_core.specs.Built.{is_among as among, is_empty};
 ghost use Rattle.tf_core.specs.Standing.{shared};
 
+use crate::late::is_among;
 use crate::transform::Transform;
 use std::alloc::Global;
 use std::marker::Brand;
@@ -19,36 +20,50 @@ use tf_page::changed_after;
 use tf_reader::Reader;
 use tf_segment::Run;
 
-/// A reader of the first documents, as many as `count`.
+/// A reader of the documents that the newest checkpoint of a transform reads.
 pub fn reader_of(
     alloc: Global,
+    transform: &Transform,
     docs: &[Arc<Doc, Global>],
-    count: u64,
 ) -> Result<Reader, OutOfMemory>
-    requires within { count ≤ length docs.now }
-    requires few { length docs.now ≤ 2 ^ 31 }
-    ensures { IfOk result (λ reader. documents reader ≡ take count (shared docs.now)) }
+    requires within { transform.now.read ≤ length docs.now }
+    requires few { length (read_by transform.now (shared docs.now)) ≤ 500 }
+    ensures { IfOk result (λ reader. documents reader ≡ read_by transform.now (shared docs.now)) }
 {
-    let docs = first_docs(alloc, docs, count)?;
+    let docs = docs_in(alloc, transform.sources.as_slice(), docs, transform.read)?;
     let mut runs = List::new(alloc);
     runs.push(Run::new(docs))?;
     Ok(Reader::new(runs))
 }
 
-// The first documents, shared.
-fn first_docs(
+// Those of the first documents that are in these indices, shared.
+fn docs_in(
     alloc: Global,
+    sources: &[u64],
     docs: &[Arc<Doc, Global>],
     count: u64,
 ) -> Result<List<Arc<Doc, Global>>, OutOfMemory>
     requires { count ≤ length docs.now }
-    ensures { IfOk result (λ first. map (λ doc. arc_value doc) first ≡ take count (map (λ doc. arc_value doc) docs.now)) }
+    ensures { IfOk result (λ found. map (λ doc. arc_value doc) found ≡ filter (among sources.now) (take count (map (λ doc. arc_value doc) docs.now))) }
 {
-    let mut first = List::new(alloc);
+    let mut found = List::new(alloc);
     for doc in &docs[..count as usize] {
-        first.push(Arc::try_clone(doc)?)?;
+        push_if(&mut found, sources, doc)?;
     }
-    Ok(first)
+    Ok(found)
+}
+
+fn push_if(
+    found: &mut List<Arc<Doc, Global>>,
+    sources: &[u64],
+    doc: &Arc<Doc, Global>,
+) -> Result<(), OutOfMemory>
+    ensures { OnOk result (map (λ doc. arc_value doc) found.new ≡ map (λ doc. arc_value doc) found.old ++ filter (among sources.now) (arc_value doc.now ∷ [])) }
+{
+    if is_among(sources, doc.index) {
+        found.push(Arc::try_clone(doc)?)?;
+    }
+    Ok(())
 }
 
 /// Whether no changed key of a transform's first checkpoint is above its position.
@@ -59,11 +74,11 @@ pub fn none_left(
 ) -> Result<bool, OutOfMemory>
     requires config { IsInRange transform.now.config }
     requires within { transform.now.read ≤ length docs.now }
-    requires few { length docs.now ≤ 2 ^ 31 }
-    requires fit { AllFit transform.now.config (take transform.now.read (shared docs.now)) }
+    requires few { length (read_by transform.now (shared docs.now)) ≤ 500 }
+    requires fit { AllFit transform.now.config (read_by transform.now (shared docs.now)) }
     ensures { IfOk result (λ none. none ≡ has_none_left transform.now (shared docs.now)) }
 {
-    let reader = reader_of(alloc, docs, transform.read)?;
+    let reader = reader_of(alloc, transform, docs)?;
     none_after::<Brand>(
         alloc,
         &reader,

@@ -24,7 +24,8 @@ use tf_model::{Doc, Entry, Kind, OutOfMemory, Text};
 
 impl Core {
     /// Whether an entry is taken next: it is legal after the history, and of a form that is built. Want of memory may come
-    /// for a Finish alone, whose documents are gone over.
+    /// for a Write, whose tree is read, for a Put, whose sources are looked up, and for a Finish, whose documents are gone
+    /// over.
     pub fn allowed(&self, entry: &Entry) -> Result<bool, OutOfMemory>
         ensures { IfOk result (λ taken. (taken ≡ true) ↔ IsTaken (reverse self.now.history) entry.now) }
     {
@@ -55,7 +56,16 @@ fn is_taken(
     ensures { IfOk result (λ taken. (taken ≡ true) ↔ IsTaken (past_in entries.now) entry.now) }
 {
     let timely = is_in_time(entries, entry);
-    let may = may_do(alloc, ids, entries, indices, docs, transforms, &entry.kind)?;
+    let may = may_do(
+        alloc,
+        ids,
+        entries,
+        indices,
+        docs,
+        transforms,
+        entry.at_ms,
+        &entry.kind,
+    )?;
     Ok(timely && may)
 }
 
@@ -75,7 +85,7 @@ pub fn last_moment(entries: &[Kept]) -> i64
     }
 }
 
-// Whether what an entry does may be done now.
+// Whether what an entry does may be done at a moment.
 fn may_do(
     alloc: Global,
     ids: &Ids,
@@ -83,11 +93,12 @@ fn may_do(
     indices: &[Index],
     docs: &[Arc<Doc, Global>],
     transforms: &[Transform],
+    at_ms: i64,
     kind: &Kind,
 ) -> Result<bool, OutOfMemory>
     requires stands { Stands (past_in entries.now) indices.now (shared docs.now) transforms.now }
     requires indexed { AreIndexed ids.now (shared docs.now) }
-    ensures { IfOk result (λ may. may ≡ spec indices.now (shared docs.now) transforms.now kind.now) }
+    ensures { IfOk result (λ may. may ≡ spec indices.now (shared docs.now) transforms.now at_ms kind.now) }
 {
     match kind {
         Kind::Index {
@@ -103,8 +114,10 @@ fn may_do(
             seq,
             id,
             tree,
-        } => Ok(takes_document(indices, ids, docs, *index, *shard, *seq, id, tree)),
-        Kind::Put { id, config } => Ok(takes_transform(indices, transforms, id, config)),
+        } => takes_document(
+            alloc, ids, indices, docs, transforms, at_ms, *index, *shard, *seq, id, tree,
+        ),
+        Kind::Put { id, config } => takes_transform(alloc, indices, docs, transforms, id, config),
         Kind::Start { id } => Ok(find(transforms, id).is_some_and(|found| may_start(found))),
         Kind::Stopped { id } => Ok(find(transforms, id).is_some_and(|found| may_stop(found))),
         Kind::Begin { id, n, bound } => {

@@ -1,21 +1,21 @@
 // The document of a Write.
-ghost use Rattle.std.specs.Prelude.{◌≡◌, ◌++◌, IfOk};
+ghost use Rattle.std.specs.Prelude.{◌≡◌, ◌++◌, true, None, IfOk, IsSomeAnd, slice_get};
 ghost use Rattle.std.specs.Option.{option_copied};
 ghost use Rattle.tf_history.specs.Catalogue as spec;
 ghost use Rattle.tf_core.specs.Chain.{all_added};
-ghost use Rattle.tf_core.specs.Values.{values_of as read};
+ghost use Rattle.tf_mapping.specs.Documents.{reads, values_of as read};
 ghost use Rattle.tf_core.specs.Made.{IsWritten};
 
 use crate::catalogue::index_at;
 use crate::index::Index;
 use crate::kept::Kept;
 use crate::ready::{Prepared, Step};
-use crate::values::values_of;
+use crate::trees::read_values;
 use std::alloc::Global;
 use std::sync::Arc;
 use tf_model::{Doc, List, OutOfMemory, Text, Tree, Value};
 
-/// The document of a Write, where these indices are there.
+/// The document of a Write, where these indices are there and its index reads the tree.
 pub fn doc_of(
     alloc: Global,
     indices: &[Index],
@@ -26,6 +26,7 @@ pub fn doc_of(
     id: Text,
     tree: Tree,
 ) -> Result<Doc, OutOfMemory>
+    requires { IsSomeAnd (slice_get (indices.now ++ all_added steps.now) index) (λ s. reads s.mapping None tree ≡ true) }
     ensures { IfOk result (λ doc. doc ≡ spec.written_doc read (indices.now ++ all_added steps.now) index shard seq id tree) }
 {
     let values = values_in(alloc, index_at(indices, steps, index as usize), &tree)?;
@@ -56,10 +57,22 @@ fn values_in(
     index: Option<&Index>,
     tree: &Tree,
 ) -> Result<List<(Text, Value)>, OutOfMemory>
+    requires { IsSomeAnd (option_copied index) (λ s. reads s.mapping None tree.now ≡ true) }
     ensures { IfOk result (λ values. values ≡ spec.values_in read (option_copied index.entry) tree.now) }
 {
     match index {
-        None => Ok(List::new(alloc)),
-        Some(index) => values_of(alloc, index.mapping(), tree),
+        None => unreachable!(),
+        Some(index) => values_by(alloc, index, tree),
+    }
+}
+
+#[tactic(auto, using(crate::proofs::Written::same_values))]
+fn values_by(alloc: Global, index: &Index, tree: &Tree) -> Result<List<(Text, Value)>, OutOfMemory>
+    requires { reads index.now.mapping None tree.now ≡ true }
+    ensures { IfOk result (λ values. values ≡ read index.now.mapping index.now.stamp tree.now) }
+{
+    match read_values(alloc, index.mapping(), tree)? {
+        Some(values) => Ok(values),
+        None => unreachable!(),
     }
 }

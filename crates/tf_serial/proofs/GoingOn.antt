@@ -1,7 +1,8 @@
 -- A history that goes on, and the Pages in it.
-use Rattle.std.proofs.Common.{◌≡◌, ℕ, ◌≤◌, List, [], ◌∷◌, ◌++◌, refl, sym, ap, subst, ◌∙◌, arith, length-append}
-use Rattle.std.specs.Prelude.{length, reverse}
-use Rattle.std.proofs.lemmas.List.{length-reverse, reverse-append}
+use Rattle.std.proofs.Common.{◌≡◌, ℕ, ◌+◌, ◌≤◌, List, [], ◌∷◌, ◌++◌, refl, sym, ap, subst, ◌∙◌, arith, append_assoc, length-append}
+use Rattle.std.specs.List.{AllByRecursion}
+use Rattle.std.specs.Prelude.{Result, Ok, Err, length, reverse}
+use Rattle.std.proofs.lemmas.List.{append-nil, length-reverse, reverse-append}
 use mathlib.Core.List.{IsPrefix}
 use Rattle.tf_model.specs.declared.entry.Entry.{Entry}
 use Rattle.tf_disk.specs.Disk.{Meaning}
@@ -9,10 +10,14 @@ use Rattle.tf_disk.specs.declared.device.Disk.{Ghosts}
 use Rattle.tf_history.specs.Events.{Event}
 use Rattle.tf_history.specs.Histories.{AllRight}
 use Rattle.tf_core.specs.Legal.{read}
+use Rattle.tf_store.specs.Answers.{counted, history_after}
+use Rattle.tf_store.specs.declared.error.StoreError.{StoreError}
 use Rattle.tf_store.specs.Words.{disk_of, found_of, history_of, opened_at, opened_with}
 use Rattle.tf_store.specs.declared.state.Store.{Store}
 use Rattle.tf_serial.specs.Parts.{GoesOn, IsRightEntry, Runs}
-use Rattle.tf_serial.proofs.Prefixes.{prefix_self, prefix_through}
+use Rattle.tf_serial.proofs.RightLines.{IsQuietEntry, quiet_kind}
+use Rattle.tf_serial.proofs.SpelledPasts.{all_reverse}
+use Rattle.tf_serial.proofs.Prefixes.{prefix_self, prefix_through, reverse_more}
 
 length_read : (past : List Entry) → length (read past) ≡ length past
 length_read [] = refl
@@ -55,6 +60,22 @@ goes_entry first e right =
       right = subst (λ past. AllRight (length first) (read past)) (sym last) ((goes_itself first).right, λ at. right);
     }
 
+-- a past behind which no Page comes
+quiet_right : (n : ℕ) (past more : List Entry) → AllByRecursion IsQuietEntry more → AllRight n (read past) → AllRight n (read (more ++ past))
+quiet_right n past [] quiet right = right
+quiet_right n past (e ∷ more) quiet right = (quiet_right n past more quiet.1 right, λ at. quiet_kind (more ++ past) e.kind quiet.0)
+
+pub goes_quietly : (first es : List Entry) → AllByRecursion IsQuietEntry es → GoesOn first (first ++ es)
+goes_quietly first es quiet = record {
+  begun = (es, refl);
+  right = subst (λ past. AllRight (length first) (read past)) (sym (reverse-append first es)) (quiet_right (length first) (reverse first) (reverse es) (all_reverse IsQuietEntry es quiet) (goes_itself first).right);
+}
+
+-- entries more among which no Page is, or the same history
+goes_by : {X : Type 0} (r : Result X StoreError) (number : ℕ) (first es now : List Entry) → now ≡ history_after first es (counted number r) → AllByRecursion IsQuietEntry es → GoesOn first now
+goes_by (Ok x) number first es now is quiet = subst (λ now. GoesOn first now) (sym is) (goes_quietly first es quiet)
+goes_by (Err e) number first es now is quiet = subst (λ now. GoesOn first now) (sym is) (goes_itself first)
+
 module _ {D : Type 0} {g : Ghosts D} (m : Meaning D) where
   pub runs_through : (old mid new : Store D g) → Runs m old mid → Runs m mid new → Runs m old new
   runs_through old mid new p q = record {
@@ -89,3 +110,8 @@ module _ {D : Type 0} {g : Ghosts D} (m : Meaning D) where
     found = found;
     later = later;
   }
+
+  pub runs_submit : {X : Type 0} (r : Result X StoreError) (old new : Store D g) (number : ℕ) (es : List Entry) → history_of new ≡ history_after (history_of old) es (counted number r) → AllByRecursion IsQuietEntry es
+      → (opened_at new ≡ opened_at old) × (opened_with new ≡ opened_with old) → found_of new ≡ found_of old → m.faults (disk_of old) ≤ m.faults (disk_of new) → Runs m old new
+  runs_submit r old new number es is quiet opened found later =
+      record { history = goes_by r number (history_of old) es (history_of new) is quiet; opened = opened.0; opened_count = opened.1; found = found; later = later }

@@ -1,10 +1,11 @@
 -- Each move leaves fewer moves, and a settling makes all of them.
-use Rattle.std.proofs.Common.{◌≡◌, ℕ, zero, suc, ◌+◌, ◌<◌, ◌≤◌, ℤ, Bool, true, false, cond, ◌&&◌, List, [], ◌∷◌, flat_map, length, Option, Some, None, refl, sym, ap, ◌∙◌, subst, arith, length-append, ltb-true}
+use Rattle.std.proofs.Common.{◌≡◌, ℕ, zero, suc, ◌+◌, ◌<◌, ◌≤◌, ℤ, Bool, true, false, cond, ◌&&◌, List, [], ◌∷◌, ◌++◌, flat_map, length, Option, Some, None, refl, sym, ap, ◌∙◌, subst, arith, length-append, ltb-true}
 use Rattle.std.specs.BTreeSet.{insert_key}
 use Rattle.std.specs.List.{AllByRecursion, find}
 use Rattle.std.specs.Option.{option_and_then, option_map}
 use Rattle.std.specs.Ordering.{match_ordering}
-use Rattle.std.specs.Prelude.{◌||◌, ⊤, IfSome, IsSomeAnd, filter, fold, if◌then◌else◌, not, unwrap_or}
+use Rattle.std.specs.Prelude.{int_le, ◌||◌, ⊤, IfSome, IsSomeAnd, filter, fold, if◌then◌else◌, not, unwrap_or}
+use Rattle.std.specs.declared.cmp.Ordering.{Ordering}
 use Rattle.std.specs.declared.cmp.Ordering.TheVariants.{Less, Equal, Greater}
 use Rattle.std.proofs.lemmas.Option.{same_Some}
 use Rattle.tf_model.specs.Changed.{is_after}
@@ -30,8 +31,8 @@ use Rattle.tf_history.proofs.EndsLaw.{batch_moves_end}
 use Rattle.tf_history.proofs.Induction.{IsKept, holds, legal_known}
 use Rattle.tf_core.specs.Legal.{IsTakenPast, read}
 use Rattle.tf_core.specs.Lookups.{head_of}
-use Rattle.tf_core.specs.Moves.{kind_of, last_ms_in, moved}
-use Rattle.tf_core.specs.Values.{values_of}
+use Rattle.tf_core.specs.Moves.{clamped, kind_of, last_ms_in, later, moment_after, moved}
+use Rattle.tf_mapping.specs.Documents.{values_of}
 use Rattle.tf_core.proofs.AllowedKinds.{only_one, read_is_legal}
 use Rattle.tf_core.proofs.BuiltPast.{built_past}
 use Rattle.tf_core.proofs.Sums.{few_filter}
@@ -51,21 +52,33 @@ none_by false false true begun paged a b o e = absurd (let none : paged + 2 ≡ 
 none_by false false false begun paged a b o e = refl
 
 -- where no move is left there is none
-pub none_left : (id : List ℕ) (past : List Entry) → left_in id past ≡ 0 → next_move id past ≡ None
-none_left id past e = ap (λ o. option_map (moved (last_ms_in past)) (option_and_then kind_of o)) (by (life id (read past)) refl e)
+pub none_left : (given : ℤ) (id : List ℕ) (past : List Entry) → left_in given id past ≡ 0 → next_move given id past ≡ None
+none_left given id past e = ap (λ o. option_map (moved (moment_after past given)) (option_and_then kind_of o)) (by (life id (read past)) refl e)
   where
-    by : (o : Option Life) → life id (read past) ≡ o → left_by o (documents (read past)) (last_ms_in past) ≡ 0 → legality.next_move id (read past) (last_ms_in past) ≡ None
-    by None is e = ap (option_and_then (λ l. move_of id l (documents (read past)) (last_ms_in past))) is
+    by : (o : Option Life) → life id (read past) ≡ o → left_by o (documents (read past)) (moment_after past given) ≡ 0 → legality.next_move id (read past) (moment_after past given) ≡ None
+    by None is e = ap (option_and_then (λ l. move_of id l (documents (read past)) (moment_after past given))) is
     by (Some l) is e =
-        ap (option_and_then (λ l. move_of id l (documents (read past)) (last_ms_in past))) is
-        ∙ none_by (may_stop l.state l) (is_started l.state && is_due l (documents (read past)) (last_ms_in past)) (is_running l && is_active l.state)
-        (length (changed l.meaning (next_checkpoint l (documents (read past)) (last_ms_in past) ∷ l.checkpoints))) (length (to_do l))
-        (Stopped id) (begin_move id l (last_ms_in past)) (page_move id l (failing l) (next_page l)) e
+        ap (option_and_then (λ l. move_of id l (documents (read past)) (moment_after past given))) is
+        ∙ none_by (may_stop l.state l) (is_started l.state && is_due l (documents (read past)) (moment_after past given)) (is_running l && is_active l.state)
+        (length (changed l.meaning (next_checkpoint l (documents (read past)) (moment_after past given) ∷ l.checkpoints))) (length (to_do l))
+        (Stopped id) (begin_move id l (moment_after past given)) (page_move id l (failing l) (next_page l)) e
 
 -- ---- a move leaves fewer
-module _ (id : List ℕ) (past : List Entry) (e : Entry) (taken : IsTakenPast past) (is : next_move id past ≡ Some e) where
+by_same : (b : Bool) (n : ℤ) → (if b then n else n) ≡ n
+by_same true n = refl
+by_same false n = refl
+
+later_again : (a b : ℤ) (c : Bool) → int_le a b ≡ c → later (if c then b else a) b ≡ (if c then b else a)
+later_again a b true e = by_same (int_le b b) b
+later_again a b false e = ap (λ c. if c then b else a) e
+
+-- the moment of a move is also that of the next one
+stays : (given : ℤ) (past : List Entry) (e : Entry) → e.at_ms ≡ moment_after past given → moment_after (e ∷ past) given ≡ moment_after past given
+stays given past e at = ap (λ ms. later ms (clamped given)) at ∙ later_again (last_ms_in past) (clamped given) (int_le (last_ms_in past) (clamped given)) refl
+
+module _ (given : ℤ) (id : List ℕ) (past : List Entry) (e : Entry) (taken : IsTakenPast past) (is : next_move given id past ≡ Some e) where
   abbrev moment : ℤ
-  moment = last_ms_in past
+  moment = moment_after past given
 
   abbrev Fewer : Life → Life → Type 0
   Fewer l now = (now.meaning ≡ l.meaning) × ((docs : List Doc) → moves_left now docs moment < moves_left l (documents (read past)) moment)
@@ -74,20 +87,20 @@ module _ (id : List ℕ) (past : List Entry) (e : Entry) (taken : IsTakenPast pa
   after l None h = absurd h
   after l (Some now) h = h.1 (documents (read (e ∷ past)))
 
-  by_life : (o : Option Life) → life id (read past) ≡ o → left_in id (e ∷ past) < left_in id past
+  by_life : (o : Option Life) → life id (read past) ≡ o → left_in given id (e ∷ past) < left_in given id past
   by_life None there =
-      let m = move_is past id e is in
+      let m = move_is given past id e is in
       absurd (let none : ◌≡◌ {A = Option Deed} None (Some m.deed) = sym (ap (option_and_then (λ l. move_of id l (documents (read past)) moment)) there) ∙ m.next in cc)
   by_life (Some l) there =
-      let m = move_is past id e is in
+      let m = move_is given past id e is in
       let some : 0 < l.meaning.page_size = omega (arith, has_size past taken id l there) in
       let ends = batch_moves_end (read past) id moment m.deed l (read_is_legal past taken) there (is_batch past taken id l there) some m.next in
       let same : ◌≡◌ {A = Event} (record { moment = moment; deed = m.deed }) (event_of values_of (catalogue past) e) = (λ i. record { moment = sym m.at i; deed = sym (deed_back (catalogue past) m.deed e.kind m.kind_is) i }) in
       let now = subst (λ (v : Event). IsSomeAnd (life id (v ∷ read past)) (Fewer l)) same ends in
-      subst (λ (p : ℤ × Option Life). left_by (life id (read (e ∷ past))) (documents (read (e ∷ past))) p.0 < left_by p.1 (documents (read past)) moment) (λ i. (sym m.at i, sym there i))
+      subst (λ (p : ℤ × Option Life). left_by (life id (read (e ∷ past))) (documents (read (e ∷ past))) p.0 < left_by p.1 (documents (read past)) moment) (λ i. (sym (stays given past e m.at) i, sym there i))
       (after l (life id (read (e ∷ past))) now)
 
-  pub fewer_left : left_in id (e ∷ past) < left_in id past
+  pub fewer_left : left_in given id (e ∷ past) < left_in given id past
   fewer_left = by_life (life id (read past)) refl
 
 -- ---- few are left
@@ -153,12 +166,12 @@ filter_few p (k ∷ keys) = elim (p k) as (λ b. length (cond b (k ∷ filter p 
   | false ↦ let rest = filter_few p keys in omega arith
 ]
 
-module _ (id : List ℕ) (past : List Entry) (taken : IsTakenPast past) where
+module _ (given : ℤ) (id : List ℕ) (past : List Entry) (taken : IsTakenPast past) where
   abbrev docs : List Doc
   docs = documents (read past)
 
   abbrev now_ms : ℤ
-  now_ms = last_ms_in past
+  now_ms = moment_after past given
 
   begun_few : (l : Life) → life id (read past) ≡ Some l → is_due l docs now_ms ≡ true → length (changed l.meaning (next_checkpoint l docs now_ms ∷ l.checkpoints)) ≤ length docs
   begun_few l there due =
@@ -193,7 +206,7 @@ module _ (id : List ℕ) (past : List Entry) (taken : IsTakenPast past) where
       most_by (may_stop l.state l) (is_started l.state && is_due l docs now_ms) (is_running l && is_active l.state) (length (changed l.meaning (next_checkpoint l docs now_ms ∷ l.checkpoints))) (length (to_do l)) (length docs)
       (λ e. begun_few l there (both (is_started l.state) (is_due l docs now_ms) e).1) (λ e. paged_few l there (both (is_running l) (is_active l.state) e).0)
 
-  pub few_left : left_in id past ≤ length docs + 3
+  pub few_left : left_in given id past ≤ length docs + 3
   few_left = few_by (life id (read past)) refl
 
 -- ---- a settling ends
@@ -213,14 +226,14 @@ moved_same past (Start id) k e = absurd (let none : ◌≡◌ {A = Option Kind} 
 moved_same past (StopAsked id wait) k e = absurd (let none : ◌≡◌ {A = Option Kind} None (Some k) = e in cc)
 moved_same past (Schedule id) k e = absurd (let none : ◌≡◌ {A = Option Kind} None (Some k) = e in cc)
 
-moved_on : (n : ℕ) (id : List ℕ) (past : List Entry) → ((later : List Entry) → transforms (moves n id later) ≡ transforms later) → (o : Option Entry) → next_move id past ≡ o
-    → transforms (unwrap_or (option_map (λ e. moves n id (e ∷ past)) o) past) ≡ transforms past
-moved_on n id past later None is = refl
-moved_on n id past later (Some e) is = let m = move_is past id e is in later (e ∷ past) ∙ moved_same past m.deed e.kind m.kind_is
+moved_on : (given : ℤ) (n : ℕ) (id : List ℕ) (past : List Entry) → ((later : List Entry) → transforms (moves given n id later) ≡ transforms later) → (o : Option Entry) → next_move given id past ≡ o
+    → transforms (unwrap_or (option_map (λ e. moves given n id (e ∷ past)) o) past) ≡ transforms past
+moved_on given n id past later None is = refl
+moved_on given n id past later (Some e) is = let m = move_is given past id e is in later (e ∷ past) ∙ moved_same past m.deed e.kind m.kind_is
 
-pub moves_same : (n : ℕ) (id : List ℕ) (past : List Entry) → transforms (moves n id past) ≡ transforms past
-moves_same zero id past = refl
-moves_same (suc n) id past = moved_on n id past (moves_same n id) (next_move id past) refl
+pub moves_same : (given : ℤ) (n : ℕ) (id : List ℕ) (past : List Entry) → transforms (moves given n id past) ≡ transforms past
+moves_same given zero id past = refl
+moves_same given (suc n) id past = moved_on given n id past (moves_same given n id) (next_move given id past) refl
 
 only_head : (ts : List PutTransform) (p : PutTransform) → length ts ≤ 1 → head_of ts ≡ Some p → AllByRecursion (λ q. q ≡ p) ts
 only_head [] p one e = tt
@@ -231,25 +244,25 @@ no_head : (ts : List PutTransform) → head_of ts ≡ None → ts ≡ []
 no_head [] e = refl
 no_head (q ∷ ts) e = absurd (let some : ◌≡◌ {A = Option PutTransform} (Some q) None = e in cc)
 
-no_life : (id : List ℕ) (past : List Entry) → life id (read past) ≡ None → next_move id past ≡ None
-no_life id past none = ap (λ o. option_map (moved (last_ms_in past)) (option_and_then kind_of (option_and_then (λ l. move_of id l (documents (read past)) (last_ms_in past)) o))) none
+no_life : (given : ℤ) (id : List ℕ) (past : List Entry) → life id (read past) ≡ None → next_move given id past ≡ None
+no_life given id past none = ap (λ o. option_map (moved (moment_after past given)) (option_and_then kind_of (option_and_then (λ l. move_of id l (documents (read past)) (moment_after past given)) o))) none
 
 -- with no move of the one transform there is none
-pub all_settled : (past : List Entry) (p : PutTransform) → IsTakenPast past → head_of (transforms past) ≡ Some p → next_move p.id past ≡ None → IsSettled past
-all_settled past p taken head none id = by (life id (read past)) refl
+pub all_settled : (given : ℤ) (past : List Entry) (p : PutTransform) → IsTakenPast past → head_of (transforms past) ≡ Some p → next_move given p.id past ≡ None → IsSettled given past
+all_settled given past p taken head none id = by (life id (read past)) refl
   where
-    by : (o : Option Life) → life id (read past) ≡ o → next_move id past ≡ None
-    by None is = no_life id past is
+    by : (o : Option Life) → life id (read past) ≡ o → next_move given id past ≡ None
+    by None is = no_life given id past is
     by (Some l) is =
         let put = put_of_life past id l is in
         let own = found_has (λ q. q ≡ p) id (transforms past) put.put (only_head (transforms past) p (built_past past taken).one_put head) put.there in
-        ap (λ t. next_move t past) (own.1 ∙ ap (λ (q : PutTransform). q.id) own.0) ∙ none
+        ap (λ t. next_move given t past) (own.1 ∙ ap (λ (q : PutTransform). q.id) own.0) ∙ none
 
-pub none_settled : (past : List Entry) → head_of (transforms past) ≡ None → IsSettled past
-none_settled past none id = by (life id (read past)) refl
+pub none_settled : (given : ℤ) (past : List Entry) → head_of (transforms past) ≡ None → IsSettled given past
+none_settled given past none id = by (life id (read past)) refl
   where
-    by : (o : Option Life) → life id (read past) ≡ o → next_move id past ≡ None
-    by None is = no_life id past is
+    by : (o : Option Life) → life id (read past) ≡ o → next_move given id past ≡ None
+    by None is = no_life given id past is
     by (Some l) is =
         let put = put_of_life past id l is in
         absurd (let wrong : ◌≡◌ {A = Option PutTransform} None (Some put.put) = sym (ap (find (λ (q : PutTransform). is_same id q.id)) (no_head (transforms past) none)) ∙ put.there in cc)

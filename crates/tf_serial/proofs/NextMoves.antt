@@ -1,5 +1,5 @@
 -- The entry of a next move has a spelling and is right.
-use Rattle.std.proofs.Common.{◌≡◌, ℕ, ◌<◌, ◌≤◌, ◌^◌, ℤ, Bool, true, false, cond, List, [], ◌∷◌, length, Option, Some, None, refl, sym, ap, ◌∙◌, subst, arith}
+use Rattle.std.proofs.Common.{◌≡◌, ℕ, ◌+◌, ◌<◌, ◌≤◌, ◌^◌, ℤ, Bool, true, false, cond, List, [], ◌∷◌, length, Option, Some, None, refl, sym, ap, ◌∙◌, subst, arith}
 use Rattle.std.specs.List.{AllByRecursion, find}
 use Rattle.std.specs.Option.{option_and_then, option_map}
 use Rattle.std.specs.Prelude.{IfSome, IsSomeAnd, is_none, negsuc, pos, reverse}
@@ -35,9 +35,9 @@ use Rattle.tf_history.proofs.MovesLaw.{moves_are_legal}
 use Rattle.tf_core.specs.Built.{is_built}
 use Rattle.tf_core.specs.BuiltPast.{IsBuiltPut}
 use Rattle.tf_core.specs.Legal.{IsTaken, IsTakenHistory, IsTakenPast, read, reading}
-use Rattle.tf_core.specs.Moves.{kind_of, last_ms_in, moved}
+use Rattle.tf_core.specs.Moves.{kind_of, moment_after, move, moved}
 use Rattle.tf_core.specs.Texts.{HasShortRows, HasTexts, IsShort, IsTextOf, IsTextRow}
-use Rattle.tf_core.specs.Values.{values_of}
+use Rattle.tf_mapping.specs.Documents.{values_of}
 use Rattle.tf_core.proofs.AllowedKinds.{once, read_is_legal, unbounded}
 use Rattle.tf_core.proofs.BuiltPast.{built_past}
 use Rattle.tf_core.proofs.Fitting.{IsBuiltForm, built_form}
@@ -74,7 +74,7 @@ module _ (past : List Entry) (taken : IsTakenPast past) (id : List ℕ) (l : Lif
   put_is = put_of_life past id l is
 
   form : IsBuiltForm put_is.put.config
-  form = built_form put_is.put.config (found_has (IsBuiltPut (catalogue past)) id (transforms past) put_is.put (built_past past taken).each_put put_is.there).0.form
+  form = built_form put_is.put.config (found_has (IsBuiltPut (catalogue past) (documents (read past))) id (transforms past) put_is.put (built_past past taken).each_put put_is.there).0.form
 
   pub is_batch : l.meaning.is_batch ≡ true
   is_batch = sym (ap (λ m. m.is_batch) put_is.means) ∙ ap is_none form.batch
@@ -132,22 +132,22 @@ rows_fit [] h = tt
 rows_fit (r ∷ rows) h = (row_fits r h.0, rows_fit rows h.1)
 
 -- ---- the entry of a move
-pub record IsMoveOf (past : List Entry) (id : List ℕ) (e : Entry) : Type 0 where
+pub record IsMoveOf (given : ℤ) (past : List Entry) (id : List ℕ) (e : Entry) : Type 0 where
   pub deed : Deed
-  pub next : legality.next_move id (read past) (last_ms_in past) ≡ Some deed
+  pub next : legality.next_move id (read past) (moment_after past given) ≡ Some deed
   pub kind_is : kind_of deed ≡ Some e.kind
-  pub at : e.at_ms ≡ last_ms_in past
+  pub at : e.at_ms ≡ moment_after past given
 
-pub move_is : (past : List Entry) (id : List ℕ) (e : Entry) → next_move id past ≡ Some e → IsMoveOf past id e
-move_is past id e is = by (legality.next_move id (read past) (last_ms_in past)) refl is
+pub move_is : (given : ℤ) (past : List Entry) (id : List ℕ) (e : Entry) → next_move given id past ≡ Some e → IsMoveOf given past id e
+move_is given past id e is = by (legality.next_move id (read past) (moment_after past given)) refl is
   where
-    by_kind : (deed : Deed) → legality.next_move id (read past) (last_ms_in past) ≡ Some deed → (o : Option Kind) → kind_of deed ≡ o → option_map (moved (last_ms_in past)) o ≡ Some e → IsMoveOf past id e
+    by_kind : (deed : Deed) → legality.next_move id (read past) (moment_after past given) ≡ Some deed → (o : Option Kind) → kind_of deed ≡ o → option_map (moved (moment_after past given)) o ≡ Some e → IsMoveOf given past id e
     by_kind deed next None kind_is made = absurd (let none : ◌≡◌ {A = Option Entry} None (Some e) = made in cc)
     by_kind deed next (Some k) kind_is made =
-        let same : moved (last_ms_in past) k ≡ e = same_Some (moved (last_ms_in past) k) e made in
+        let same : moved (moment_after past given) k ≡ e = same_Some (moved (moment_after past given) k) e made in
         record { deed = deed; next = next; kind_is = kind_is ∙ ap (λ (e : Entry). Some e.kind) same; at = sym (ap (λ (e : Entry). e.at_ms) same) }
 
-    by : (o : Option Deed) → legality.next_move id (read past) (last_ms_in past) ≡ o → option_map (moved (last_ms_in past)) (option_and_then kind_of o) ≡ Some e → IsMoveOf past id e
+    by : (o : Option Deed) → legality.next_move id (read past) (moment_after past given) ≡ o → option_map (moved (moment_after past given)) (option_and_then kind_of o) ≡ Some e → IsMoveOf given past id e
     by None next made = absurd (let none : ◌≡◌ {A = Option Entry} None (Some e) = made in cc)
     by (Some deed) next made = by_kind deed next (kind_of deed) refl made
 
@@ -231,9 +231,9 @@ module _ (past : List Entry) (taken : IsTakenPast past) (ids : AllByRecursion (�
   kind_fits moment (kind.Fail id n key name sum) moves allowed short = absurd (let wrong : false ≡ true = moves in cc)
   kind_fits moment (kind.Reset id) moves allowed short = absurd (let wrong : false ≡ true = moves in cc)
 
-  entry_fits : (id : List ℕ) (e : Entry) → IsMoveOf past id e → IsTaken past e → HasShortRows e.kind → FitsEntry First e
+  entry_fits : (given : ℤ) (id : List ℕ) (e : Entry) → IsMoveOf given past id e → IsTaken past e → HasShortRows e.kind → FitsEntry First e
   unfolding reading
-  entry_fits id e m t short = record {
+  entry_fits given id e m t short = record {
     at_ms = span_fits e.at_ms t.legal.moment;
     actor = omega (arith, t.legal.actor);
     kind = kind_fits e.at_ms e.kind (move_built past m.deed e.kind m.kind_is t.built) t.legal.allowed short;
@@ -246,17 +246,17 @@ module _ (past : List Entry) (taken : IsTakenPast past) (ids : AllByRecursion (�
       by None is = tt
       by (Some l) is = omega (arith, has_size past taken id l is)
 
-  entry_right : (id : List ℕ) (e : Entry) → IsMoveOf past id e → IsRightEntry past e
-  entry_right id e m =
+  entry_right : (given : ℤ) (id : List ℕ) (e : Entry) → IsMoveOf given past id e → IsRightEntry past e
+  entry_right given id e m =
       subst (λ d. IsRightEvent d (read past)) (sym (deed_back (catalogue past) m.deed e.kind m.kind_is))
-      (moves_are_legal (read past) id (last_ms_in past) m.deed (read_is_legal past taken) (sized id) m.next).1
+      (moves_are_legal (read past) id (moment_after past given) m.deed (read_is_legal past taken) (sized id) m.next).1
 
-  next_known : (id : List ℕ) (o : Option Entry) → o ≡ next_move id past → IfSome o (IsTaken past) → IfSome o (λ (e : Entry). HasShortRows e.kind) → IfSome o (IsNext past)
-  next_known id None is t short = tt
-  next_known id (Some e) is t short = let m = move_is past id e (sym is) in record { taken = t; fits = entry_fits id e m t short; right = entry_right id e m }
+  next_known : (given : ℤ) (id : List ℕ) (o : Option Entry) → o ≡ next_move given id past → IfSome o (IsTaken past) → IfSome o (λ (e : Entry). HasShortRows e.kind) → IfSome o (IsNext past)
+  next_known given id None is t short = tt
+  next_known given id (Some e) is t short = let m = move_is given past id e (sym is) in record { taken = t; fits = entry_fits given id e m t short; right = entry_right given id e m }
 
 -- the entry of the next move is taken, has a spelling and is right
-pub move_is_next : (history : List Entry) (id : List ℕ) (o : Option Entry) → IsTakenHistory history → AreSpelled history → o ≡ next_move id (reverse history) → IfSome o (IsTaken (reverse history))
+pub move_is_next : (given : ℤ) (history : List Entry) (id : List ℕ) (o : Option Entry) → IsTakenHistory history → AreSpelled history → o ≡ next_move given id (reverse history) → IfSome o (IsTaken (reverse history))
     → (AllByRecursion (HasTexts IsShort) (documents (read (reverse history))) → IfSome o (λ (e : Entry). HasShortRows e.kind)) → IfSome o (IsNext (reverse history))
-move_is_next history id o taken spelled is t short =
-    next_known (reverse history) taken (ids_are_short history spelled) id o is t (short (texts_are_short history spelled))
+move_is_next given history id o taken spelled is t short =
+    next_known (reverse history) taken (ids_are_short history spelled) given id o is t (short (texts_are_short history spelled))

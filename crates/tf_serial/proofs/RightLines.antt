@@ -1,106 +1,198 @@
--- An entry that a line asks for is no Page.
-use Rattle.std.proofs.Common.{◌≡◌, ℕ, Bool, true, false, cond, ◌&&◌, List, Option, Some, None, Ok, Err, refl, sym, subst}
-use Rattle.std.specs.Prelude.{Result, is_none, is_some, nat_eq}
+-- No entry that a command asks for is a Page.
+use Rattle.std.proofs.Common.{◌≡◌, ℕ, ℤ, ◌^◌, Bool, true, false, cond, ◌&&◌, ◌||◌, List, [], ◌∷◌, length, Option, Some, None, Ok, Err, refl}
+use Rattle.std.specs.List.{AllByRecursion, find}
+use Rattle.std.specs.Option.{option_map}
+use Rattle.std.specs.Prelude.{Result, is_none, is_some, nat_eq, nat_le, nat_lt, not, slice_get}
+use Rattle.tf_model.specs.declared.config.Config.{Config}
 use Rattle.tf_model.specs.declared.entry.Entry.{Entry}
 use Rattle.tf_model.specs.declared.entry.Kind.{Kind}
 use Rattle.tf_model.specs.declared.entry.Kind.TheVariants as kind
+use Rattle.tf_model.specs.declared.query.Mapping.{Mapping}
 use Rattle.tf_model.specs.declared.tree.Tree.{Tree}
-use Rattle.tf_model.specs.Names.{is_index_name}
-use Rattle.tf_command.specs.Commands.{command_of}
-use Rattle.tf_command.specs.Lines.{is_blank}
-use Rattle.tf_command.specs.declared.command.Command.{Command}
-use Rattle.tf_command.specs.declared.command.LineError.{LineError}
-use Rattle.tf_command.specs.declared.command.LineError.TheVariants as line_error
+use Rattle.tf_model.specs.declared.value.Value.{Value}
+use Rattle.tf_model.specs.Names.{is_index_name, is_transform_id}
 use Rattle.tf_command.specs.declared.command.Op.{Op}
 use Rattle.tf_command.specs.declared.command.Op.TheVariants as op
-use Rattle.tf_history.specs.Catalogue.{catalogue, number_of}
-use Rattle.tf_core.specs.Commanded.{commanded, takes_command}
-use Rattle.tf_serial.specs.declared.asked.Asked.{Asked}
-use Rattle.tf_serial.specs.declared.asked.Asked.TheVariants.{Skipped, Refused, Accepted, Settles, Shows}
-use Rattle.tf_serial.specs.declared.asked.Refusal.TheVariants.{NoSuchIndex}
-use Rattle.tf_serial.specs.Asking.{IsReady, asked, asked_document, asked_entry, asked_op, asked_reading, asked_refused, asked_search, document_made, index_made, is_dest, is_plain, no_such_index, transform_made, unsupported}
-use Rattle.tf_serial.specs.Parts.{AsksNext, IsRightEntry}
+use Rattle.tf_mapping.specs.declared.error.DocError.{DocError}
+use Rattle.tf_mapping.specs.declared.error.MappingError.{MappingError}
+use Rattle.tf_mapping.specs.Documents.{reading}
+use Rattle.tf_mapping.specs.Mappings as mappings
+use Rattle.tf_mapping.specs.Routes.{shard_of}
+use Rattle.tf_reply.specs.Refusals.{mapping_refusal}
+use Rattle.tf_reply.specs.declared.faults.Limit.TheVariants as limit
+use Rattle.tf_reply.specs.declared.faults.Refusal.{Refusal}
+use Rattle.tf_reply.specs.declared.faults.Refusal.TheVariants as refusal
+use Rattle.tf_history.specs.Catalogue.{SourceIndex, catalogue, number_of}
+use Rattle.tf_history.specs.Histories.{IsRightEvent}
+use Rattle.tf_history.specs.LegalEntries.{has_id, is_free}
+use Rattle.tf_history.specs.Lives.{documents, life}
+use Rattle.tf_history.specs.Reading.{deed_of}
+use Rattle.tf_history.specs.Transforms.{transform_of}
+use Rattle.tf_core.specs.Built.{fits_indices, is_built_config}
+use Rattle.tf_core.specs.Legal.{read}
+use Rattle.tf_core.specs.Moves.{moment_after}
+use Rattle.tf_mapping.specs.Documents.{values_of}
+use Rattle.tf_decide.specs.Asking as decide
+use Rattle.tf_decide.specs.Configs.{config_of, configured}
+use Rattle.tf_decide.specs.declared.asked.Answer.TheVariants as answer
+use Rattle.tf_decide.specs.declared.asked.Asked.{Asked}
+use Rattle.tf_decide.specs.declared.config.ConfigForm.{ConfigForm}
 
-abbrev AsksRight : List Entry → Asked → Type 0
-AsksRight past (Accepted e) = IsRightEntry past e
-AsksRight past _ = Unit {0}
+-- a kind that is no Page
+abbrev pub IsQuiet : Kind → Type 0
+IsQuiet (kind.Page id n rows) = ⊥
+IsQuiet _ = Unit {0}
 
-either : (past : List Entry) (b : Bool) (x y : Asked) → (b ≡ true → AsksRight past x) → AsksRight past y → AsksRight past (cond b x y)
-either past true x y p q = p refl
-either past false x y p q = q
+abbrev pub IsQuietEntry : Entry → Type 0
+IsQuietEntry e = IsQuiet e.kind
 
-command_right : (past : List Entry) (k : Kind) → takes_command past k ≡ true → IsRightEntry past (commanded past k)
-command_right past (kind.Index name shards mapping stamp quick) e = tt
-command_right past (kind.Write index shard seq id tree) e = tt
-command_right past (kind.Put id config) e = tt
-command_right past (kind.Start id) e = tt
-command_right past (kind.Delete id) e = tt
-command_right past (kind.StopAsked id wait) e = tt
-command_right past (kind.Stopped id) e = tt
-command_right past (kind.Schedule id) e = tt
-command_right past (kind.Begin id n bound) e = tt
-command_right past (kind.Page id n rows) e = absurd (let wrong : false ≡ true = e in cc)
-command_right past (kind.Finish id n) e = tt
-command_right past (kind.Fail id n key name sum) e = tt
-command_right past (kind.Reset id) e = tt
+pub quiet_kind : (past : List Entry) (k : Kind) → IsQuiet k → IsRightEvent (deed_of values_of (catalogue past) k) (read past)
+quiet_kind past (kind.Page id n rows) quiet = absurd quiet
+quiet_kind past (kind.Index name shards mapping stamp quick) quiet = tt
+quiet_kind past (kind.Write index shard seq id tree) quiet = tt
+quiet_kind past (kind.Put id config) quiet = tt
+quiet_kind past (kind.Start id) quiet = tt
+quiet_kind past (kind.Delete id) quiet = tt
+quiet_kind past (kind.StopAsked id wait) quiet = tt
+quiet_kind past (kind.Stopped id) quiet = tt
+quiet_kind past (kind.Schedule id) quiet = tt
+quiet_kind past (kind.Begin id n bound) quiet = tt
+quiet_kind past (kind.Finish id n) quiet = tt
+quiet_kind past (kind.Fail id n key name sum) quiet = tt
+quiet_kind past (kind.Reset id) quiet = tt
 
-entry_right : (past : List Entry) (o : Option Kind) → AsksRight past (asked_entry past o)
-entry_right past None = tt
-entry_right past (Some k) = either past (takes_command past k) (Accepted (commanded past k)) unsupported (λ e. command_right past k e) tt
+abbrev AreQuiet : Asked → Type 0
+AreQuiet a = AllByRecursion IsQuietEntry a.entries
 
-refused_right : (past : List Entry) (b : Bool) (name : List ℕ) → AsksRight past (cond b (Refused (NoSuchIndex name)) unsupported)
-refused_right past true name = tt
-refused_right past false name = tt
+either : {X : Type 0} (P : X → Type 0) (b : Bool) (x y : X) → P x → P y → P (cond b x y)
+either P true x y p q = p
+either P false x y p q = q
 
-document_right : (past : List Entry) (name id : List ℕ) (doc : Tree) (o : Option ℕ) → AsksRight past (asked_document past name id doc o)
-document_right past name id doc (Some index) = entry_right past (document_made past index id doc)
-document_right past name id doc None = either past (is_dest past name) unsupported (no_such_index name) (λ e. tt) (refused_right past (is_index_name name) name)
+-- ---- documents
+abbrev IsQuietTry : Result Entry Refusal → Type 0
+IsQuietTry (Ok e) = IsQuietEntry e
+IsQuietTry (Err r) = Unit {0}
 
-search_right : (past : List Entry) (name : List ℕ) → AsksRight past (asked_search past name)
-search_right past name =
-    either past (is_dest past name) (Shows name) (cond (is_some (number_of name (catalogue past))) unsupported (no_such_index name)) (λ e. tt)
-    (either past (is_some (number_of name (catalogue past))) unsupported (no_such_index name) (λ e. tt) (refused_right past (is_index_name name) name))
+accepted_quiet : (tried : List (Result Entry Refusal)) → AllByRecursion IsQuietTry tried → AllByRecursion IsQuietEntry (decide.accepted tried)
+accepted_quiet [] quiet = tt
+accepted_quiet (Ok e ∷ tried) quiet = (quiet.0, accepted_quiet tried quiet.1)
+accepted_quiet (Err r ∷ tried) quiet = accepted_quiet tried quiet.1
 
-op_right : (past : List Entry) (o : Op) → AsksRight past (asked_op past o)
-op_right past (op.CreateIndex name mappings shards stamp quick) = entry_right past (index_made name mappings shards stamp)
-op_right past (op.Index name id doc) = document_right past name id doc (number_of name (catalogue past))
-op_right past (op.PutTransform id config) = entry_right past (transform_made id config)
-op_right past (op.Start id) = entry_right past (Some (kind.Start id))
-op_right past op.Settle = tt
-op_right past (op.Search name size after) = either past (nat_eq size 10 && is_none after) (asked_search past name) unsupported (λ e. search_right past name) tt
-op_right past (op.Bulk name docs) = tt
-op_right past (op.Delete id) = tt
-op_right past (op.Stop id wait force) = tt
-op_right past (op.Reset id) = tt
-op_right past (op.ScheduleNow id) = tt
-op_right past (op.Step id) = tt
-op_right past (op.Await id checkpoint) = tt
-op_right past (op.Stats id) = tt
-op_right past (op.Preview config) = tt
+with_quiet : (seq : ℕ) (fits : Bool) (e : Entry) → IsQuietEntry e → IsQuietTry (decide.document_with seq fits e)
+with_quiet seq fits e quiet =
+    either IsQuietTry (nat_lt seq (2 ^ 31)) (cond fits (Ok e) (Err refusal.UnsupportedYet)) (Err (refusal.Limit limit.Documents))
+    (either IsQuietTry fits (Ok e) (Err refusal.UnsupportedYet) quiet tt) tt
 
-error_right : (past : List Entry) (error : LineError) → AsksRight past (asked_refused error)
-error_right past (line_error.LineTooLong bytes) = tt
-error_right past line_error.BadJson = tt
-error_right past (line_error.Fraction path) = tt
-error_right past line_error.UnknownOp = tt
-error_right past (line_error.MissingField field) = tt
-error_right past (line_error.BadValue field) = tt
-error_right past line_error.Memory = tt
+new_quiet : (id : List ℕ) (place : Option (ℕ × ℕ)) (seq : ℕ) (fits : Bool) (e : Entry) → IsQuietEntry e → IsQuietTry (decide.document_new id place seq fits e)
+new_quiet id (Some place) seq fits e quiet = tt
+new_quiet id None seq fits e quiet = with_quiet seq fits e quiet
 
-reading_right : (past : List Entry) (r : Result Command LineError) → AsksRight past (asked_reading past r)
-reading_right past (Ok command) = either past (is_plain command) (asked_op past command.op) unsupported (λ e. op_right past command.op) tt
-reading_right past (Err error) = error_right past error
+by_quiet : (id : List ℕ) (r : Result (List (List ℕ × Value)) DocError) (place : Option (ℕ × ℕ)) (seq : ℕ) (fits : Bool) (e : Entry) → IsQuietEntry e → IsQuietTry (decide.document_by id r place seq fits e)
+by_quiet id (Ok values) place seq fits e quiet = new_quiet id place seq fits e quiet
+by_quiet id (Err error) place seq fits e quiet = tt
 
-line_right : (past : List Entry) (number : ℕ) (line : List ℕ) → AsksRight past (asked past number line)
-line_right past number line = either past (is_blank line) Skipped (asked_reading past (command_of number line)) (λ e. tt) (reading_right past (command_of number line))
+document_quiet : (past : List Entry) (actor : ℕ) (given : ℤ) (index : ℕ) (s : SourceIndex) (id : List ℕ) (tree : Tree) → IsQuietTry (decide.asked_document past actor given index s id tree)
+document_quiet past actor given index s id tree =
+    let shard = shard_of id s.shards in
+    let seq = decide.next_seq past index shard in
+    by_quiet id (reading s.mapping s.stamp tree) (option_map decide.place_of (find (has_id index id) (documents (read past)))) seq
+    (decide.is_let_in past given index s (decide.kept_tree s.stamp (moment_after past given) tree)) (decide.write_after past actor given index s shard seq id tree) tt
 
-both_next : (past : List Entry) (a : Asked) → IsReady past a → AsksRight past a → AsksNext past a
-both_next past Skipped ready right = tt
-both_next past (Refused refusal) ready right = tt
-both_next past (Accepted e) ready right = record { taken = ready.0; fits = ready.1; right = right }
-both_next past Settles ready right = tt
-both_next past (Shows name) ready right = tt
+documents_quiet : (past : List Entry) (actor : ℕ) (given : ℤ) (index : ℕ) (s : SourceIndex) (docs : List (List ℕ × Tree)) → AllByRecursion IsQuietTry (decide.asked_documents past actor given index s docs)
+documents_quiet past actor given index s [] = tt
+documents_quiet past actor given index s (doc ∷ docs) =
+    (document_quiet past actor given index s doc.0 doc.1, documents_quiet (decide.past_with past (decide.asked_document past actor given index s doc.0 doc.1)) actor given index s docs)
 
--- what a line asks for is taken next, has a spelling and is right
-pub line_asks_next : (past : List Entry) (number : ℕ) (line : List ℕ) (a : Asked) → a ≡ asked past number line → IsReady past a → AsksNext past a
-line_asks_next past number line a is ready = both_next past a ready (subst (AsksRight past) (sym is) (line_right past number line))
+module _ (past : List Entry) (name : List ℕ) (asks : ℕ → SourceIndex → Asked) (quiet : (index : ℕ) (s : SourceIndex) → AreQuiet (asks index s)) where
+  index_quiet : (asks : SourceIndex → Asked) → ((s : SourceIndex) → AreQuiet (asks s)) → (o : Option SourceIndex) → AreQuiet (decide.into_index name asks o)
+  index_quiet asks quiet None = tt
+  index_quiet asks quiet (Some s) = quiet s
+
+  number_quiet : (o : Option ℕ) → AreQuiet (decide.into_number past name asks o)
+  number_quiet None = tt
+  number_quiet (Some index) = index_quiet (asks index) (quiet index) (slice_get (catalogue past) index)
+
+  into_quiet : AreQuiet (decide.into past name asks)
+  into_quiet =
+      either AreQuiet (not (decide.may_be_written past name)) (decide.refuses (refusal.BadName name)) (decide.into_number past name asks (number_of name (catalogue past))) tt
+      (number_quiet (number_of name (catalogue past)))
+
+-- ---- indices and transforms
+module _ (past : List Entry) (actor : ℕ) (given : ℤ) where
+  sharded_quiet : (name : List ℕ) (o : Option ℕ) (stamp : Option (List ℕ)) (mapping : Mapping) → AreQuiet (decide.index_sharded past actor given name o stamp mapping)
+  sharded_quiet name None stamp mapping = tt
+  sharded_quiet name (Some shards) stamp mapping = (tt, tt)
+
+  with_index_quiet : (name : List ℕ) (shards : ℤ) (stamp : Option (List ℕ)) (mapping : Mapping) → AreQuiet (decide.index_with past actor given name shards stamp mapping)
+  with_index_quiet name shards stamp mapping =
+      let many = decide.refuses (refusal.Limit limit.Indices) in
+      let sharded = decide.index_sharded past actor given name (decide.some_count shards) stamp mapping in
+      either AreQuiet (not (is_free name past)) (decide.refuses (refusal.IndexExists name)) (cond (nat_le 64 (length (catalogue past))) many sharded) tt
+      (either AreQuiet (nat_le 64 (length (catalogue past))) many sharded tt (sharded_quiet name (decide.some_count shards) stamp mapping))
+
+  refused_quiet : (o : Option Refusal) → AreQuiet (decide.refused_by o)
+  refused_quiet None = tt
+  refused_quiet (Some r) = tt
+
+  index_by_quiet : (name : List ℕ) (shards : ℤ) (stamp : Option (List ℕ)) (r : Result Mapping MappingError) → AreQuiet (decide.index_by past actor given name shards stamp r)
+  index_by_quiet name shards stamp (Ok mapping) = with_index_quiet name shards stamp mapping
+  index_by_quiet name shards stamp (Err error) = refused_quiet (mapping_refusal error)
+
+  create_quiet : (name : List ℕ) (tree : Tree) (shards : ℤ) (stamp : Option (List ℕ)) → AreQuiet (decide.asked_index past actor given name tree shards stamp)
+  create_quiet name tree shards stamp =
+      let read_mapping = mappings.reading stamp tree in
+      either AreQuiet (is_index_name name) (decide.index_by past actor given name shards stamp read_mapping) (decide.refuses (refusal.BadName name)) (index_by_quiet name shards stamp read_mapping) tt
+
+  after_put_quiet : (id : List ℕ) (c : Config) → AreQuiet (decide.put_after past actor given id c)
+  after_put_quiet id c =
+      let made = decide.put_made past actor given id c in
+      let taken = decide.refuses (refusal.IndexExists c.dest) in
+      let last = cond (decide.can_read past c) made decide.unsupported in
+      let bad = is_some (transform_of id past) || not (is_built_config c && fits_indices c (catalogue past)) in
+      either AreQuiet bad decide.unsupported (cond (not (is_free c.dest past)) taken last) tt
+      (either AreQuiet (not (is_free c.dest past)) taken last tt (either AreQuiet (decide.can_read past c) made decide.unsupported (tt, tt) tt))
+
+  put_by_quiet : (id : List ℕ) (o : Option ConfigForm) → AreQuiet (decide.put_by past actor given id o)
+  put_by_quiet id None = tt
+  put_by_quiet id (Some form) = after_put_quiet id (configured form)
+
+  put_quiet : (id : List ℕ) (config : Tree) → AreQuiet (decide.asked_put past actor given id config)
+  put_quiet id config = either AreQuiet (is_transform_id id) (decide.put_by past actor given id (config_of config)) (decide.refuses (refusal.BadName id)) (put_by_quiet id (config_of config)) tt
+
+  start_quiet : (id : List ℕ) → AreQuiet (decide.asked_start past actor given id)
+  start_quiet id =
+      let made = decide.start_made past actor given id in
+      let may = decide.starts (life id (read past)) in
+      either AreQuiet (not (is_transform_id id)) (decide.refuses (refusal.BadName id)) (cond may made decide.unsupported) tt (either AreQuiet may made decide.unsupported (tt, tt) tt)
+
+  search_quiet : (name : List ℕ) (size : ℕ) (o : Option Tree) → AreQuiet (decide.asked_search past name size o)
+  search_quiet name size o =
+      let bad = not (decide.may_be_searched past name) in
+      let plain = nat_eq size 10 && is_none o in
+      let shown = decide.tells (answer.Shown name) in
+      let last = cond plain shown decide.unsupported in
+      let none = decide.refuses (refusal.NoSuchIndex name) in
+      either AreQuiet bad (decide.refuses (refusal.BadName name)) (cond (not (decide.is_dest past name)) none last) tt
+      (either AreQuiet (not (decide.is_dest past name)) none last tt (either AreQuiet plain shown decide.unsupported tt tt))
+
+-- ---- commands
+pub asked_quiet : (past : List Entry) (actor : ℕ) (given : ℤ) (o : Op) → AreQuiet (decide.asked past actor given o)
+asked_quiet past actor given (op.CreateIndex name tree shards stamp quick) = create_quiet past actor given name tree shards stamp
+asked_quiet past actor given (op.Index name id tree) =
+    into_quiet past name (λ index s. decide.document_alone (decide.asked_document past actor given index s id tree))
+    (λ index s. accepted_quiet (decide.asked_document past actor given index s id tree ∷ []) (document_quiet past actor given index s id tree, tt))
+asked_quiet past actor given (op.Bulk name docs) =
+    into_quiet past name (λ index s. decide.documents_tried (decide.asked_documents past actor given index s docs))
+    (λ index s. accepted_quiet (decide.asked_documents past actor given index s docs) (documents_quiet past actor given index s docs))
+asked_quiet past actor given (op.PutTransform id config) = put_quiet past actor given id config
+asked_quiet past actor given (op.Start id) = start_quiet past actor given id
+asked_quiet past actor given op.Settle = tt
+asked_quiet past actor given (op.Search name size o) = search_quiet past actor given name size o
+asked_quiet past actor given (op.Delete id) = tt
+asked_quiet past actor given (op.Stop id wait force) = tt
+asked_quiet past actor given (op.Reset id) = tt
+asked_quiet past actor given (op.ScheduleNow id) = tt
+asked_quiet past actor given (op.Step id) = tt
+asked_quiet past actor given (op.Await id checkpoint) = tt
+asked_quiet past actor given (op.Stats id) = tt
+asked_quiet past actor given (op.Preview config) = tt

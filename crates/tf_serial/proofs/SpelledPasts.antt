@@ -1,7 +1,7 @@
 -- The texts of the documents and the ids of the transforms of a history with a spelling.
 use Rattle.std.proofs.Common.{◌≡◌, ℕ, ◌+◌, ◌-◌, ◌<◌, ◌^◌, arith, Bool, true, false, cond, List, [], ◌∷◌, ◌++◌, length, sym, subst}
 use Rattle.std.specs.List.{AllByRecursion}
-use Rattle.std.specs.Prelude.{filter, not, reverse}
+use Rattle.std.specs.Prelude.{filter, not, reverse, slice_get}
 use Rattle.std.proofs.lemmas.List.{reverse-append}
 use Rattle.std.proofs.lemmas.Str.{IsUtf8-had}
 use Rattle.std.proofs.Math.Logic.{∥∥₁_elim, ∥∥₁_map}
@@ -10,23 +10,26 @@ use Rattle.tf_model.specs.declared.doc.Doc.{Doc}
 use Rattle.tf_model.specs.declared.entry.Entry.{Entry}
 use Rattle.tf_model.specs.declared.entry.Kind.{Kind}
 use Rattle.tf_model.specs.declared.entry.Kind.TheVariants as kind
+use Rattle.tf_model.specs.declared.tree.Tree.{Tree}
+use Rattle.tf_model.specs.Values.{value_of}
+use Rattle.tf_event.specs.Trees.{FitsTree}
 use Rattle.tf_event.specs.Entries.{FitsEntry, FitsKind}
 use Rattle.tf_event.specs.declared.grammar.Grammar.TheVariants.{First}
-use Rattle.tf_history.specs.Catalogue.{SourceIndex, catalogue}
+use Rattle.tf_history.specs.Catalogue.{SourceIndex, catalogue, written_doc}
 use Rattle.tf_history.specs.Lives.{documents, is_same, writes}
 use Rattle.tf_history.specs.Reading.{deed_of}
 use Rattle.tf_history.specs.Transforms.{PutTransform, transforms, transforms_after}
 use Rattle.tf_core.specs.Legal.{read}
 use Rattle.tf_core.specs.Texts.{HasTexts, IsShort}
-use Rattle.tf_core.specs.Values.{values_of}
+use Rattle.tf_mapping.specs.Documents.{values_of}
 use Rattle.tf_store.specs.Standing.{AreSpelled}
-use Rattle.tf_serial.proofs.MemberTexts.{member_is_short}
+use Rattle.tf_serial.proofs.MemberTexts.{read_is_short}
 
 all_append : {X : Type 0} (P : X → Type 0) (xs ys : List X) → AllByRecursion P xs → AllByRecursion P ys → AllByRecursion P (xs ++ ys)
 all_append P [] ys a b = b
 all_append P (x ∷ xs) ys a b = (a.0, all_append P xs ys a.1 b)
 
-all_reverse : {X : Type 0} (P : X → Type 0) (xs : List X) → AllByRecursion P xs → AllByRecursion P (reverse xs)
+pub all_reverse : {X : Type 0} (P : X → Type 0) (xs : List X) → AllByRecursion P xs → AllByRecursion P (reverse xs)
 all_reverse P [] a = tt
 all_reverse P (x ∷ xs) a = subst (AllByRecursion P) (sym (reverse-append (x ∷ []) xs)) (all_append P (reverse xs) (x ∷ []) (all_reverse P xs a.1) (a.0, tt))
 
@@ -38,8 +41,12 @@ all_filter P p (x ∷ xs) a = elim (p x) as (λ b. AllByRecursion P (cond b (x �
 ]
 
 -- ---- documents
+doc_is_short : (indices : List SourceIndex) (index shard seq : ℕ) (id : List ℕ) (tree : Tree) → FitsTree tree → HasTexts IsShort (written_doc values_of indices index shard seq id tree)
+unfolding value_of
+doc_is_short indices index shard seq id tree fits name text e = read_is_short tree fits (slice_get indices index) name text e
+
 written_short : (indices : List SourceIndex) (k : Kind) → FitsKind First k → AllByRecursion (HasTexts IsShort) (writes (deed_of values_of indices k))
-written_short indices (kind.Write index shard seq id tree) fits = (λ name text e. member_is_short tree fits.4 name text e, tt)
+written_short indices (kind.Write index shard seq id tree) fits = (λ name text e. doc_is_short indices index shard seq id tree fits.4 name text e, tt)
 written_short indices (kind.Index name shards mapping stamp quick) fits = tt
 written_short indices (kind.Put id config) fits = tt
 written_short indices (kind.Delete id) fits = tt

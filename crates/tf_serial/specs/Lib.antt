@@ -1,9 +1,5 @@
-pub mod Forms
-pub mod Configs
-pub mod Mappings
-pub mod Asking
 pub mod Moves
-pub mod Replies
 pub mod Script
+pub mod Frames
 pub mod Parts
 pub mod Settling

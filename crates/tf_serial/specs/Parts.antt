@@ -11,14 +11,13 @@ use Rattle.tf_history.specs.Catalogue.{catalogue}
 use Rattle.tf_history.specs.Histories.{AllRight, IsRightEvent}
 use Rattle.tf_history.specs.Reading.{deed_of}
 use Rattle.tf_core.specs.Legal.{IsTaken, read}
-use Rattle.tf_core.specs.Values.{values_of}
+use Rattle.tf_mapping.specs.Documents.{values_of}
 use Rattle.tf_store.specs.Answers.{frame_size}
 use Rattle.tf_store.specs.Words.{broken_at, disk_of, failed_of, file_len, found_of, history_of, opened_at, opened_with}
 use Rattle.tf_store.specs.declared.error.StoreError.{StoreError}
 use Rattle.tf_store.specs.declared.error.StoreError.TheVariants as store_error
 use Rattle.tf_store.specs.declared.state.Store.{Store}
-use Rattle.tf_serial.specs.declared.asked.Asked.{Asked}
-use Rattle.tf_serial.specs.declared.asked.Asked.TheVariants.{Accepted}
+use Rattle.tf_serial.specs.Frames.{Frames}
 
 -- a Page is right after a past; every other entry is
 abbrev pub IsRightEntry : List Entry → Entry → Type 0
@@ -30,30 +29,26 @@ pub record IsNext (past : List Entry) (e : Entry) : Type 0 where
   pub fits : FitsEntry First e
   pub right : IsRightEntry past e
 
--- an entry that is asked for is so
-abbrev pub AsksNext : List Entry → Asked → Type 0
-AsksNext past (Accepted e) = IsNext past e
-AsksNext past _ = Unit {0}
-
 -- The first history begins the one that is left, which begins, with the entries that come next behind it, the whole one.
 pub record IsPart (first whole left next : List Entry) : Type 0 where
   pub begun : IsPrefix first left
   pub part : IsPrefix (left ++ next) whole
 
--- the frame of the entry that comes next would make the file longer than 2^40 bytes
-pub record IsFull (first whole left : List Entry) (len : ℕ) : Type 0 where
-  pub next : Entry
-  pub part : IsPart first whole left (next ∷ [])
-  pub passes : 2 ^ 40 < len + frame_size (next ∷ [])
+-- the frame that comes next would make the file longer than 2^40 bytes
+pub record IsFull (frames : Frames) (first whole left : List Entry) (len : ℕ) : Type 0 where
+  pub next : List Entry
+  pub frame : frames left next
+  pub part : IsPart first whole left next
+  pub passes : 2 ^ 40 < len + frame_size next
 
 -- Why the way to a whole history ends before it, and what is left then: after a disk fault the entries whose append failed
--- come next.
-abbrev pub IsStop : List Entry → List Entry → List Entry → List Entry → Option ℕ → ℕ → ℕ → ℕ → StoreError → Type 0
-IsStop first whole left failed broken len faults_before faults_now store_error.Memory = IsPart first whole left [] × (broken ≡ None)
-IsStop first whole left failed broken len faults_before faults_now (store_error.Disk count) =
-    IsPart first whole left failed × (broken ≡ Some count) × (count ≡ faults_now) × Rose faults_before faults_now
-IsStop first whole left failed broken len faults_before faults_now (store_error.Broken count) = ⊥
-IsStop first whole left failed broken len faults_before faults_now (store_error.Full told) = IsFull first whole left len × (told ≡ len) × (broken ≡ None)
+-- come next. The entries come in these frames.
+abbrev pub IsStop : Frames → List Entry → List Entry → List Entry → List Entry → Option ℕ → ℕ → ℕ → ℕ → StoreError → Type 0
+IsStop frames first whole left failed broken len faults_before faults_now store_error.Memory = IsPart first whole left [] × (broken ≡ None)
+IsStop frames first whole left failed broken len faults_before faults_now (store_error.Disk count) =
+    IsPart first whole left failed × frames left failed × (broken ≡ Some count) × (count ≡ faults_now) × Rose faults_before faults_now
+IsStop frames first whole left failed broken len faults_before faults_now (store_error.Broken count) = ⊥
+IsStop frames first whole left failed broken len faults_before faults_now (store_error.Full told) = IsFull frames first whole left len × (told ≡ len) × (broken ≡ None)
 
 -- a history goes on as another one, in which the Pages behind it are right
 pub record GoesOn (first now : List Entry) : Type 0 where
@@ -69,7 +64,7 @@ module _ {D : Type 0} {g : Ghosts D} (m : Meaning D) where
     pub found : found_of new ≡ found_of old
     pub later : m.faults (disk_of old) ≤ m.faults (disk_of new)
 
-  -- a call stops on the way to a whole history
-  abbrev pub Stops : Store D g → List Entry → Store D g → StoreError → Type 0
-  Stops old whole new error =
-      IsStop (history_of old) whole (history_of new) (failed_of new) (broken_at new) (file_len new) (m.faults (disk_of old)) (m.faults (disk_of new)) error
+  -- a call stops on the way to a whole history, whose entries come in these frames
+  abbrev pub Stops : Frames → Store D g → List Entry → Store D g → StoreError → Type 0
+  Stops frames old whole new error =
+      IsStop frames (history_of old) whole (history_of new) (failed_of new) (broken_at new) (file_len new) (m.faults (disk_of old)) (m.faults (disk_of new)) error

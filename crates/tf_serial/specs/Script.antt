@@ -1,34 +1,70 @@
 -- What the lines of a script do to the history, and what is replied to them.
-use Rattle.std.specs.Prelude.{◌≡◌, ℕ, ◌+◌, ◌<◌, List, [], ◌∷◌, ◌++◌, reverse, take, Some, if◌then◌else◌}
+use Rattle.std.specs.Prelude.{◌≡◌, ℕ, ℤ, ◌+◌, ◌<◌, Bool, true, false, List, [], ◌∷◌, ◌++◌, length, reverse, take, Some, Result, Ok, Err, unwrap_or, if◌then◌else◌}
 use Rattle.tf_model.specs.declared.entry.Entry.{Entry}
+use Rattle.tf_command.specs.Commands.{command_of}
 use Rattle.tf_command.specs.Lines.{is_blank}
+use Rattle.tf_command.specs.declared.command.Command.{Command}
+use Rattle.tf_command.specs.declared.command.LineError.{LineError}
+use Rattle.tf_command.specs.declared.command.Op.{Op}
+use Rattle.tf_command.specs.declared.command.Op.TheVariants as op
+use Rattle.tf_reply.specs.Answers.{reply_line}
+use Rattle.tf_reply.specs.Refusals.{line_refusal}
+use Rattle.tf_reply.specs.declared.replies.Reply.{Reply}
+use Rattle.tf_reply.specs.declared.replies.Reply.TheVariants as reply
 use Rattle.tf_history.specs.Entries.{IsGroupedBy}
 use Rattle.tf_history.specs.Entries as entries
 use Rattle.tf_history.specs.Legality.{IsIdle}
 use Rattle.tf_history.specs.Lives.{Life, life}
 use Rattle.tf_history.specs.Transforms.{PutTransform, transform_of}
-use Rattle.tf_core.specs.Values.{values_of}
-use Rattle.tf_serial.specs.declared.asked.Asked.{Asked}
-use Rattle.tf_serial.specs.declared.asked.Asked.TheVariants.{Skipped, Refused, Accepted, Settles, Shows}
-use Rattle.tf_serial.specs.Asking.{asked}
+use Rattle.tf_core.specs.Moves.{last_ms_in}
+use Rattle.tf_mapping.specs.Documents.{values_of}
+use Rattle.tf_decide.specs.Asking as decide
+use Rattle.tf_decide.specs.Asking.{refusal_or}
+use Rattle.tf_decide.specs.Replying.{past_after, reply_by}
+use Rattle.tf_decide.specs.declared.asked.Asked.{Asked}
 use Rattle.tf_serial.specs.Moves.{settled}
-use Rattle.tf_serial.specs.Replies.{reply, reply_line}
 
--- the past after what is asked for
-abbrev pub after_asked : List Entry → Asked → List Entry
-after_asked past Skipped = past
-after_asked past (Refused refusal) = past
-after_asked past (Accepted entry) = entry ∷ past
-after_asked past Settles = settled past
-after_asked past (Shows name) = past
+-- ---- commands
+-- the moment that a command gives, or that of the newest entry where it gives none
+abbrev pub given : List Entry → Command → ℤ
+given past command = unwrap_or command.at_ms (last_ms_in past)
+
+-- what a command asks for; where one thread makes the entries, the actor of commands is 0
+abbrev pub asked : List Entry → Command → Asked
+asked past command = decide.asked past 0 (given past command) command.op
+
+abbrev pub is_settle : Op → Bool
+is_settle op.Settle = true
+is_settle _ = false
+
+-- the past after a command: after the entries that it asks for, and after the moves of a settling
+abbrev pub after_command : List Entry → Command → List Entry
+after_command past command =
+    let now = past_after past (asked past command) in
+    if is_settle command.op then settled (given past command) now else now
+
+-- the reply to a command
+abbrev pub reply_of : List Entry → Command → Reply
+reply_of past command = reply_by command.line past (after_command past command) (asked past command).answer
+
+-- ---- lines
+-- the past after a line that was read
+abbrev pub after_reading : List Entry → Result Command LineError → List Entry
+after_reading past (Ok command) = after_command past command
+after_reading past (Err error) = past
 
 -- the past after the line with a number
 abbrev pub after_line : List Entry → ℕ → List ℕ → List Entry
-after_line past number line = after_asked past (asked past number line)
+after_line past number line = if is_blank line then past else after_reading past (command_of number line)
 
--- the reply to the line with a number; none to a blank line
+-- the reply to a line that was read; no reading wants memory
+abbrev pub reply_to_reading : List Entry → ℕ → Result Command LineError → Reply
+reply_to_reading past number (Ok command) = reply_of past command
+reply_to_reading past number (Err error) = reply.Refused number (length past) (refusal_or (line_refusal error))
+
+-- the reply to the line with a number, and a newline (10); none to a blank line
 abbrev pub reply_to : List Entry → ℕ → List ℕ → List ℕ
-reply_to past number line = if is_blank line then [] else reply_line (reply number (after_line past number line) (asked past number line))
+reply_to past number line = if is_blank line then [] else reply_line (reply_to_reading past number (command_of number line)) ++ 10 ∷ []
 
 -- the replies to lines from a number on, done in order from a past
 abbrev pub output : List Entry → ℕ → List (List ℕ) → List ℕ

@@ -1,5 +1,6 @@
 // Committing one entry.
 ghost use Rattle.std.specs.Prelude.{◌≡◌, ◌∷◌, ◌++◌, [], IfErr, None, OnOk, reverse};
+ghost use Rattle.tf_serial.specs.Frames.{IsOnly};
 ghost use Rattle.tf_serial.specs.Parts.{IsNext, Runs, Stops};
 ghost use Rattle.tf_store.specs.Words.{broken_at, history_of};
 
@@ -18,7 +19,7 @@ pub fn commit_entry<D: Disk>(
     requires next { IsNext (reverse (history_of store.old)) entry }
     ensures after { OnOk result (history_of store.new ≡ history_of store.old ++ entry ∷ []) }
     ensures whole { OnOk result (broken_at store.new ≡ None) }
-    ensures stops { IfErr result (Stops D.meaning store.old (history_of store.old ++ entry ∷ []) store.new) }
+    ensures stops { IfErr result (Stops D.meaning (IsOnly (history_of store.old) (entry ∷ [])) store.old (history_of store.old ++ entry ∷ []) store.new) }
     ensures runs { Runs D.meaning store.old store.new }
 {
     let mut entries = List::new(alloc);

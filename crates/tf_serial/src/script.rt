@@ -1,32 +1,32 @@
 // The lines of a script, done in order.
-ghost use Rattle.std.specs.Prelude.{◌≡◌, ◌≤◌, ◌∷◌, ◌++◌, IfErr, IfOk, None, OnOk, codes, length, reverse, string_bytes};
+ghost use Rattle.std.specs.Prelude.{◌≡◌, ◌≤◌, ◌++◌, IfErr, IfOk, IsSome, None, OnOk, length, reverse, string_bytes};
 ghost use mathlib.Core.List.{IsPrefix};
+ghost use Rattle.tf_command.specs.Commands.{command_of};
+ghost use Rattle.tf_reply.specs.Refusals.{line_refusal};
+ghost use Rattle.tf_reply.specs.declared.replies.Reply.TheVariants as reply;
+ghost use Rattle.tf_decide.specs.Asking.{refusal_or};
 ghost use Rattle.tf_core.specs.Legal.{IsTakenHistory, read};
 ghost use Rattle.tf_history.specs.Histories.{AllRight};
-ghost use Rattle.tf_serial.specs.Moves.{settled};
-ghost use Rattle.tf_serial.specs.Parts.{AsksNext, IsNext, Runs, Stops};
-ghost use Rattle.tf_serial.specs.Replies as replies;
-ghost use Rattle.tf_serial.specs.Replies.{reply};
-ghost use Rattle.tf_serial.specs.Script.{IsGrouped, after_asked, after_line, history_after, output, reply_to};
+ghost use Rattle.tf_serial.specs.Frames.{IsOfLine, IsOfLines, IsOfReading};
+ghost use Rattle.tf_serial.specs.Parts.{Runs, Stops};
+ghost use Rattle.tf_serial.specs.Script.{IsGrouped, after_line, after_reading, history_after, output, reply_to, reply_to_reading};
 ghost use Rattle.tf_store.specs.Words.{broken_at, disk_of, found_of, history_of, opened_at, opened_with};
 
-use crate::asked::{Asked, done_by};
-use crate::asking::ask;
-use crate::committing::commit_entry;
-use crate::replies::{done, done_reply, refusal, shown, write_reply};
-use crate::settling::settle;
+use crate::commanding::do_command;
 use std::alloc::Global;
-use tf_command::is_blank;
+use tf_command::{LineError, is_blank, read_command};
 use tf_disk::Disk;
 use tf_io::Lines;
-use tf_model::{Entry, Tree};
+use tf_model::OutOfMemory;
+use tf_reply::{Reply, line_refusal, write_reply};
 use tf_store::{Store, StoreError};
 
 /// Does the lines in order over a store that is not broken, and gives the replies to them.
 ///
-/// Each entry of a command is one frame, and each move of a settling is one. `Disk` comes only where a call of the disk
-/// failed in this call, and `Full` exactly where the next frame would make the file longer than 2^40 bytes. After a refusal
-/// the store has the first entries of those that all lines make, and no reply is given.
+/// A command makes its entries at the moment that it gives, or at that of the newest entry where it gives none. The entries of
+/// a command are one frame, and each move of a settling is one. `Disk` comes only where a call of the disk failed in this
+/// call, and `Full` exactly where the next frame would make the file longer than 2^40 bytes. After a refusal the store has the
+/// first entries of those that all lines make, and no reply is given.
 pub fn run_script<D: Disk>(
     alloc: Global,
     lines: &Lines,
@@ -36,7 +36,7 @@ pub fn run_script<D: Disk>(
     ensures output { IfOk result (λ text. string_bytes text ≡ output (reverse (history_of store.old)) 1 lines.now) }
     ensures after { OnOk result (history_of store.new ≡ history_after (history_of store.old) lines.now) }
     ensures whole { OnOk result (broken_at store.new ≡ None) }
-    ensures stops { IfErr result (Stops D.meaning store.old (history_after (history_of store.old) lines.now) store.new) }
+    ensures stops { IfErr result (Stops D.meaning (IsOfLines (reverse (history_of store.old)) 1 lines.now) store.old (history_after (history_of store.old) lines.now) store.new) }
     ensures begun { IsPrefix (history_of store.old) (history_of store.new) }
     // The Pages that a settling makes are right.
     ensures right { AllRight (length (history_of store.old)) (read (reverse (history_of store.new))) }
@@ -63,7 +63,7 @@ fn do_lines<D: Disk>(
     ensures output { IfOk result (λ text. string_bytes text ≡ output (reverse (history_of store.old)) 1 lines.now) }
     ensures after { OnOk result (history_of store.new ≡ history_after (history_of store.old) lines.now) }
     ensures whole { OnOk result (broken_at store.new ≡ None) }
-    ensures stops { IfErr result (Stops D.meaning store.old (history_after (history_of store.old) lines.now) store.new) }
+    ensures stops { IfErr result (Stops D.meaning (IsOfLines (reverse (history_of store.old)) 1 lines.now) store.old (history_after (history_of store.old) lines.now) store.new) }
     ensures runs { Runs D.meaning store.old store.new }
 {
     let mut text = String::new(alloc);
@@ -89,73 +89,49 @@ fn do_line<D: Disk>(
     ensures reply { OnOk result (string_bytes text.new ≡ string_bytes text.old ++ reply_to (reverse (history_of store.old)) number line.now) }
     ensures after { OnOk result (reverse (history_of store.new) ≡ after_line (reverse (history_of store.old)) number line.now) }
     ensures whole { OnOk result (broken_at store.new ≡ None) }
-    ensures stops { IfErr result (Stops D.meaning store.old (reverse (after_line (reverse (history_of store.old)) number line.now)) store.new) }
+    ensures stops { IfErr result (Stops D.meaning (IsOfLine (reverse (history_of store.old)) number line.now) store.old (reverse (after_line (reverse (history_of store.old)) number line.now)) store.new) }
     ensures runs { Runs D.meaning store.old store.new }
 {
     if is_blank(line) {
         return Ok(());
     }
-    let asked = ask(alloc, store.core(), number, line)?;
-    let reply = answer(alloc, store, number, asked)?;
-    write_reply(&reply, text)?;
+    let reply = answer(alloc, store, number, line)?;
+    write_reply(alloc, &reply, text)?;
     Ok(())
 }
 
-// Does what is asked for, and gives the reply.
+// Does a line that is not blank, and gives the reply.
 fn answer<D: Disk>(
     alloc: Global,
     store: &mut Store<D>,
     number: u64,
-    asked: Asked,
-) -> Result<Tree, StoreError>
+    line: &[u8],
+) -> Result<Reply, StoreError>
     requires whole { broken_at store.old ≡ None }
-    requires next { AsksNext (reverse (history_of store.old)) asked }
-    ensures reply { IfOk result (λ tree. tree ≡ reply number (reverse (history_of store.new)) asked) }
-    ensures after { OnOk result (reverse (history_of store.new) ≡ after_asked (reverse (history_of store.old)) asked) }
+    ensures reply { IfOk result (λ reply. reply ≡ reply_to_reading (reverse (history_of store.old)) number (command_of number line.now)) }
+    ensures after { OnOk result (reverse (history_of store.new) ≡ after_reading (reverse (history_of store.old)) (command_of number line.now)) }
     ensures whole { OnOk result (broken_at store.new ≡ None) }
-    ensures stops { IfErr result (Stops D.meaning store.old (reverse (after_asked (reverse (history_of store.old)) asked)) store.new) }
+    ensures stops { IfErr result (Stops D.meaning (IsOfReading (reverse (history_of store.old)) (command_of number line.now)) store.old (reverse (after_reading (reverse (history_of store.old)) (command_of number line.now))) store.new) }
     ensures runs { Runs D.meaning store.old store.new }
 {
-    match asked {
-        Asked::Skipped => Ok(Tree::Null),
-        Asked::Refused(error) => Ok(refusal(alloc, number, store.count(), error)?),
-        Asked::Accepted(entry) => do_entry(alloc, store, number, entry),
-        Asked::Settles => do_moves(alloc, store, number),
-        Asked::Shows(name) => Ok(shown(alloc, number, store.core(), &name)?),
+    match read_command(alloc, line, number) {
+        Ok(command) => do_command(alloc, store, command),
+        Err(error) => {
+            let reply = refused(number, store.count(), error)?;
+            Ok(reply)
+        }
     }
 }
 
-// Commits the entry of a command, and gives the reply.
-fn do_entry<D: Disk>(
-    alloc: Global,
-    store: &mut Store<D>,
-    number: u64,
-    entry: Entry,
-) -> Result<Tree, StoreError>
-    requires whole { broken_at store.old ≡ None }
-    requires next { IsNext (reverse (history_of store.old)) entry }
-    ensures reply { IfOk result (λ tree. tree ≡ replies.done_reply number (reverse (history_of store.new)) (replies.done_by entry.kind)) }
-    ensures after { OnOk result (reverse (history_of store.new) ≡ entry ∷ reverse (history_of store.old)) }
-    ensures whole { OnOk result (broken_at store.new ≡ None) }
-    ensures stops { IfErr result (Stops D.meaning store.old (reverse (entry ∷ reverse (history_of store.old))) store.new) }
-    ensures runs { Runs D.meaning store.old store.new }
+// The reply to a line that is no command. Want of memory is handed on.
+fn refused(number: u64, count: u64, error: LineError) -> Result<Reply, OutOfMemory>
+    ensures reply { IfOk result (λ told. told ≡ reply.Refused number count (refusal_or (line_refusal error))) }
+    ensures some { OnOk result (IsSome (line_refusal error)) }
 {
-    let what = done_by(alloc, &entry.kind)?;
-    commit_entry(alloc, store, entry)?;
-    let reply = done_reply(alloc, number, store.core(), what)?;
-    Ok(reply)
-}
-
-// Makes moves until there is none, and gives the reply.
-fn do_moves<D: Disk>(alloc: Global, store: &mut Store<D>, number: u64) -> Result<Tree, StoreError>
-    requires whole { broken_at store.old ≡ None }
-    ensures reply { IfOk result (λ tree. tree ≡ replies.done (codes "settled") number (length (reverse (history_of store.new)))) }
-    ensures after { OnOk result (reverse (history_of store.new) ≡ settled (reverse (history_of store.old))) }
-    ensures whole { OnOk result (broken_at store.new ≡ None) }
-    ensures stops { IfErr result (Stops D.meaning store.old (reverse (settled (reverse (history_of store.old)))) store.new) }
-    ensures runs { Runs D.meaning store.old store.new }
-{
-    settle(alloc, store)?;
-    let reply = done(alloc, "settled", number, store.count())?;
-    Ok(reply)
+    let refusal = line_refusal(error)?;
+    Ok(Reply::Refused {
+        line: number,
+        no: count,
+        refusal,
+    })
 }

@@ -1,7 +1,8 @@
-// The moves of a settling.
+// The moves of a settling at a given moment.
 ghost use Rattle.std.specs.Prelude.{◌≡◌, ◌+◌, IfErr, IfOk, IfSome, None, OnOk, Some, length, option_map, reverse};
 ghost use Rattle.tf_core.specs.Lookups.{docs_in, newest_transform};
 ghost use Rattle.tf_core.specs.Legal.{IsTakenHistory};
+ghost use Rattle.tf_serial.specs.Frames.{IsMove, IsSettling};
 ghost use Rattle.tf_serial.specs.Moves.{IsSettled, moves, next_move, settled};
 ghost use Rattle.tf_serial.specs.Parts.{IsNext, Runs, Stops};
 ghost use Rattle.tf_serial.specs.Settling.{IsAdvanced};
@@ -16,16 +17,16 @@ use tf_model::{Entry, OutOfMemory, Text};
 use tf_store::{Store, StoreError};
 
 /// Makes moves until there is none, each as one frame of the file.
-pub fn settle<D: Disk>(alloc: Global, store: &mut Store<D>) -> Result<(), StoreError>
+pub fn settle<D: Disk>(alloc: Global, store: &mut Store<D>, moment: i64) -> Result<(), StoreError>
     requires whole { broken_at store.old ≡ None }
-    ensures after { OnOk result (reverse (history_of store.new) ≡ settled (reverse (history_of store.old))) }
-    ensures ends { OnOk result (IsSettled (reverse (history_of store.new))) }
+    ensures after { OnOk result (reverse (history_of store.new) ≡ settled moment (reverse (history_of store.old))) }
+    ensures ends { OnOk result (IsSettled moment (reverse (history_of store.new))) }
     ensures whole { OnOk result (broken_at store.new ≡ None) }
-    ensures stops { IfErr result (Stops D.meaning store.old (reverse (settled (reverse (history_of store.old)))) store.new) }
+    ensures stops { IfErr result (Stops D.meaning (IsSettling moment (reverse (history_of store.old))) store.old (reverse (settled moment (reverse (history_of store.old)))) store.new) }
     ensures runs { Runs D.meaning store.old store.new }
 {
     match newest_id(alloc, store.core()) {
-        Ok(Some(id)) => make_moves(alloc, store, &id),
+        Ok(Some(id)) => make_moves(alloc, store, &id, moment),
         Ok(None) => Ok(()),
         Err(_) => Err(StoreError::Memory),
     }
@@ -42,18 +43,23 @@ fn newest_id(alloc: Global, core: &Core) -> Result<Option<Text>, OutOfMemory>
 }
 
 // Makes the moves of a transform.
-fn make_moves<D: Disk>(alloc: Global, store: &mut Store<D>, id: &Text) -> Result<(), StoreError>
+fn make_moves<D: Disk>(
+    alloc: Global,
+    store: &mut Store<D>,
+    id: &Text,
+    moment: i64,
+) -> Result<(), StoreError>
     requires whole { broken_at store.old ≡ None }
-    ensures after { OnOk result (reverse (history_of store.new) ≡ moves (length (docs_in (history_of store.old)) + 4) id.now (reverse (history_of store.old))) }
-    ensures ends { OnOk result (next_move id.now (reverse (history_of store.new)) ≡ None) }
+    ensures after { OnOk result (reverse (history_of store.new) ≡ moves moment (length (docs_in (history_of store.old)) + 4) id.now (reverse (history_of store.old))) }
+    ensures ends { OnOk result (next_move moment id.now (reverse (history_of store.new)) ≡ None) }
     ensures taken { OnOk result (IsTakenHistory (history_of store.new)) }
     ensures whole { OnOk result (broken_at store.new ≡ None) }
-    ensures stops { IfErr result (Stops D.meaning store.old (reverse (moves (length (docs_in (history_of store.old)) + 4) id.now (reverse (history_of store.old)))) store.new) }
+    ensures stops { IfErr result (Stops D.meaning (IsMove moment id.now (reverse (history_of store.old))) store.old (reverse (moves moment (length (docs_in (history_of store.old)) + 4) id.now (reverse (history_of store.old)))) store.new) }
     ensures runs { Runs D.meaning store.old store.new }
 {
     let most = most_moves(store.core());
     'moves: for _ in 0..most {
-        match advance(alloc, store, id) {
+        match advance(alloc, store, id, moment) {
             Ok(true) => {}
             Ok(false) => return Ok(()),
             Err(error) => return Err(error),
@@ -72,15 +78,20 @@ fn most_moves(core: &Core) -> u64
 }
 
 // Makes the next move of a transform, and says whether there was one.
-fn advance<D: Disk>(alloc: Global, store: &mut Store<D>, id: &Text) -> Result<bool, StoreError>
+fn advance<D: Disk>(
+    alloc: Global,
+    store: &mut Store<D>,
+    id: &Text,
+    moment: i64,
+) -> Result<bool, StoreError>
     requires whole { broken_at store.old ≡ None }
-    ensures moved { IfOk result (λ any. IsAdvanced any id.now (reverse (history_of store.old)) (reverse (history_of store.new))) }
+    ensures moved { IfOk result (λ any. IsAdvanced moment any id.now (reverse (history_of store.old)) (reverse (history_of store.new))) }
     ensures taken { OnOk result (IsTakenHistory (history_of store.new)) }
     ensures whole { OnOk result (broken_at store.new ≡ None) }
-    ensures stops { IfErr result (Stops D.meaning store.old (reverse (moves 1 id.now (reverse (history_of store.old)))) store.new) }
+    ensures stops { IfErr result (Stops D.meaning (IsMove moment id.now (reverse (history_of store.old))) store.old (reverse (moves moment 1 id.now (reverse (history_of store.old)))) store.new) }
     ensures runs { Runs D.meaning store.old store.new }
 {
-    match next_entry(store.core(), id) {
+    match next_entry(store.core(), id, moment) {
         Ok(Some(entry)) => {
             commit_entry(alloc, store, entry)?;
             store.core().is_taken();
@@ -95,12 +106,12 @@ fn advance<D: Disk>(alloc: Global, store: &mut Store<D>, id: &Text) -> Result<bo
 }
 
 // The entry of the next move of a transform, none where it has none.
-fn next_entry(core: &Core, id: &Text) -> Result<Option<Entry>, OutOfMemory>
+fn next_entry(core: &Core, id: &Text, moment: i64) -> Result<Option<Entry>, OutOfMemory>
     requires { AreSpelled core.now.history }
-    ensures moved { IfOk result (λ entry. entry ≡ next_move id.now (reverse core.now.history)) }
+    ensures moved { IfOk result (λ entry. entry ≡ next_move moment id.now (reverse core.now.history)) }
     ensures next { IfOk result (λ entry. IfSome entry (IsNext (reverse core.now.history))) }
 {
     core.is_taken();
-    let entry = core.next_entry(id)?;
+    let entry = core.next_entry(id, moment)?;
     Ok(entry)
 }

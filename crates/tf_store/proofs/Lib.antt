@@ -5,4 +5,5 @@ mod Crashing
 mod Encoding
 mod Committing
 mod Opened
+mod Refusing
 mod Examples

@@ -1,5 +1,5 @@
 -- What the calls of a store answer, and why.
-use Rattle.std.specs.Prelude.{◌≡◌, ◌⊎◌, ℕ, ◌+◌, ◌^◌, ◌<◌, ◌≤◌, List, ◌++◌, length, Bool, true, false, Result, Ok, Err, Some, None}
+use Rattle.std.specs.Prelude.{◌≡◌, ◌⊎◌, ℕ, ◌+◌, ◌^◌, ◌<◌, ◌≤◌, List, [], ◌∷◌, ◌++◌, length, Bool, true, false, Result, Ok, Err, Some, None, IfErr}
 use Rattle.std.specs.declared.option.Option.{Option}
 use Rattle.tf_model.specs.Causes.{Rose}
 use Rattle.tf_model.specs.declared.entry.Entry.{Entry}
@@ -64,6 +64,25 @@ SoundAnswer len size number faults_before faults_now (Err (store_error.Full told
 abbrev pub CommitAnswers : Option ℕ → ℕ → ℕ → ℕ → ℕ → ℕ → Result ℕ StoreError → Type 0
 CommitAnswers (Some count) len size number faults_before faults_now result = result ≡ Err (store_error.Broken count)
 CommitAnswers None len size number faults_before faults_now result = SoundAnswer len size number faults_before faults_now result
+
+-- a result with its value replaced by a number
+abbrev pub counted : {A : Type 0} → ℕ → Result A StoreError → Result ℕ StoreError
+counted number (Ok value) = Ok number
+counted number (Err error) = Err error
+
+-- what holds where memory was not wanted
+abbrev pub OrMemory : Result ℕ StoreError → Type 0 → Type 0
+OrMemory (Ok told) P = P
+OrMemory (Err store_error.Memory) P = Unit {0}
+OrMemory (Err (store_error.Disk count)) P = P
+OrMemory (Err (store_error.Broken count)) P = P
+OrMemory (Err (store_error.Full len)) P = P
+
+-- What a call answers that finds out what is to be committed. It may want memory for that, also where the store is broken.
+-- Where there are no entries it is refused for nothing else.
+abbrev pub SubmitAnswers : List Entry → Option ℕ → ℕ → ℕ → ℕ → ℕ → Result ℕ StoreError → Type 0
+SubmitAnswers [] broken len number faults_before faults_now result = IfErr result (λ error. error ≡ store_error.Memory)
+SubmitAnswers (e ∷ entries) broken len number faults_before faults_now result = OrMemory result (CommitAnswers broken len (frame_size (e ∷ entries)) number faults_before faults_now result)
 
 -- what holds where a commit made no call of the disk
 abbrev pub OnNoCall : Result ℕ StoreError → Type 0 → Type 0

@@ -3,3 +3,4 @@ pub mod Crashes
 pub mod Standing
 pub mod Answers
 pub mod Words
+pub mod Commands

@@ -11,6 +11,7 @@ mod laws;
 mod opening;
 mod replay;
 mod state;
+mod submitting;
 
 pub use error::{OpenError, StoreError};
 pub use laws::{content_is_one, histories_are_taken};
@@ -18,5 +19,7 @@ pub use state::Store;
 
 #[cfg(test)]
 mod commit_tests;
+#[cfg(test)]
+mod submit_tests;
 #[cfg(test)]
 mod tests;

@@ -1,9 +1,8 @@
 use Rattle.std.proofs.Common.{◌≡◌, true, false, [], refl, sym, ap, subst, ◌∙◌, Some}
-use Rattle.std.proofs.lemmas.List.{length-map}
 use Rattle.tf_model.specs.declared.entry.Kind.TheVariants as kind
 use Rattle.tf_core.specs.Kept.{past_in}
 use Rattle.tf_core.specs.Standing.{shared}
-use Rattle.tf_core.proofs.AllowedKinds.{config_in_range, docs_fit, few_docs, no_wide_sum}
+use Rattle.tf_core.proofs.AllowedKinds.{config_in_range, docs_fit, few_read, no_wide_sum}
 use Rattle.tf_core.proofs.NextKind.{page_kind, kind_by, page_by, page_short, page_taken}
 use Rattle.tf_core.specs.Texts.{HasShortRows}
 use Rattle.tf_core.specs.Legal.{IsTaken}
@@ -14,7 +13,7 @@ pub next_rows-requires-clause-config : goal.next_rows-requires-clause-config
 next_rows-requires-clause-config c = config_in_range (past_in c.args.entries.now) c.args.indices.now (shared c.args.docs.now) c.args.transforms.now c.requires.stands c.args.id.now c.args.found.now c.requires.found
 
 pub next_rows-requires-clause-few : goal.next_rows-requires-clause-few
-next_rows-requires-clause-few c = simp length-map at (few_docs (past_in c.args.entries.now) c.args.indices.now (shared c.args.docs.now) c.args.transforms.now c.requires.stands)
+next_rows-requires-clause-few c = few_read (past_in c.args.entries.now) c.args.indices.now (shared c.args.docs.now) c.args.transforms.now c.requires.stands c.args.id.now c.args.found.now c.requires.found
 
 pub next_rows-requires-clause-fit : goal.next_rows-requires-clause-fit
 next_rows-requires-clause-fit c = docs_fit (past_in c.args.entries.now) c.args.indices.now (shared c.args.docs.now) c.args.transforms.now c.requires.stands c.args.id.now c.args.found.now c.requires.found

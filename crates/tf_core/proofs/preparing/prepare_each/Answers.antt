@@ -3,7 +3,7 @@ use Rattle.std.specs.Vec.Iter.{into_iter_items}
 use Rattle.tf_core.specs.Chain.{all_added, entries_in, row_count}
 use Rattle.tf_core.specs.Made.{IsPreparedFor}
 use Rattle.tf_core.specs.Preparing.{AllFit, rows_of_all}
-use Rattle.tf_core.proofs.MoreSteps.{chain_more, put_rows_more, row_count_more, same_more}
+use Rattle.tf_core.proofs.MoreSteps.{chain_more, fit_more, put_rows_more, row_count_more, same_more}
 use Rattle.tf_core.proofs.preparing.prepare_each.Goals as goal
 
 pub loop-entry-preserved : goal.loop-entry-preserved
@@ -18,7 +18,7 @@ loop-entry-preserved c =
     record {
       same = same_more c.args.indices.now c.args.room l.steps.items now p e more is rest ∙ (ap (λ es. entries_in l.steps.items ++ es) (sym c.in-Some.ensures.steps.0) ∙ l.invariant.same);
       chain = chain_more c.args.indices.now c.args.room l.steps.items now p e more is l.invariant.chain;
-      fit = (subst AllFit c.in-Some.ensures.steps.0 l.invariant.fit).1;
+      fit = fit_more c.args.indices.now c.args.room l.steps.items now p e more is rest (subst (AllFit (c.args.indices.now ++ all_added l.steps.items)) c.in-Some.ensures.steps.0 l.invariant.fit).1;
       put_rows = put_rows_more c.args.indices.now c.args.room l.steps.items now p e more is l.invariant.put_rows;
       rows = row_count_more c.args.indices.now c.args.room l.steps.items now p e more is rest (subst (λ es. row_count l.steps.items + rows_of_all es ≡ c.args.room) c.in-Some.ensures.steps.0 l.invariant.rows);
     }

@@ -7,6 +7,7 @@ use Rattle.tf_core.specs.Legal.{AreTakenAfter}
 use Rattle.tf_store.specs.Words.{broken_at, disk_of, failed_of, file_len, history_of, journal_of}
 use Rattle.std.specs.Prelude.{IfErr}
 use Rattle.tf_store.specs.declared.error.StoreError.TheVariants as store_error
+use Rattle.tf_serial.specs.Frames.{IsOnly}
 use Rattle.tf_serial.specs.Parts.{Stops}
 use Rattle.tf_serial.proofs.GoingOn.{runs_entry, runs_itself, runs_same}
 use Rattle.tf_serial.proofs.Prefixes.{prefix_more, prefix_self}
@@ -36,9 +37,9 @@ returns-in-Err-clause-stops g c =
     let es = c.push.new.self in
     let error = c.in-Err.error in
     let one : es ≡ c.args.entry ∷ [] = c.in_ok-push.ensures.ok ∙ ap (λ (l : List Entry). l ++ c.args.entry ∷ []) c.new-entries.ensures in
-    subst (λ (l : List Entry). Stops m old (history_of old ++ l) new error) one
-    (stop_of_commit (history_of old) es (history_of new) (failed_of old) (failed_of new) c.args.entry (broken_at old) (broken_at new) (file_len old) (file_len new) (length (history_of old ++ es)) (m.faults (disk_of old)) (m.faults (disk_of new)) error
-    one c.requires.whole c.in-Err.ensures.answer c.in-Err.ensures.history c.in-Err.ensures.broken c.in-Err.ensures.failed
+    subst (λ (l : List Entry). Stops m (IsOnly (history_of old) l) old (history_of old ++ l) new error) one
+    (stop_of_commit (history_of old) es (history_of new) (failed_of old) (failed_of new) (broken_at old) (broken_at new) (file_len old) (file_len new) (length (history_of old ++ es)) (m.faults (disk_of old)) (m.faults (disk_of new)) error
+    c.requires.whole c.in-Err.ensures.answer c.in-Err.ensures.history c.in-Err.ensures.broken c.in-Err.ensures.failed
     (no_call error (journal_of new ≡ journal_of old) (file_len new ≡ file_len old) (λ same. ap journal.file_len same) c.in-Err.ensures.no_call))
 
 pub returns-in-Err-clause-runs : goal.returns-in-Err-clause-runs
@@ -48,7 +49,7 @@ pub returns-in_err-push-clause-stops : goal.returns-in_err-push-clause-stops
 returns-in_err-push-clause-stops g c =
     let old = c.args.store.now in
     let is : IfErr c.from_residual.result (λ e. e ≡ store_error.Memory) = search rules in
-    if_memory c.from_residual.result (Stops g.D.Disk.meaning old (history_of old ++ c.args.entry ∷ []) old) is
+    if_memory c.from_residual.result (Stops g.D.Disk.meaning (IsOnly (history_of old) (c.args.entry ∷ [])) old (history_of old ++ c.args.entry ∷ []) old) is
     (memory_at (history_of old) (history_of old) (history_of old ++ c.args.entry ∷ []) (broken_at old) (prefix_self (history_of old)) (prefix_more (history_of old) (c.args.entry ∷ [])) c.requires.whole)
 
 pub returns-in_err-push-clause-runs : goal.returns-in_err-push-clause-runs

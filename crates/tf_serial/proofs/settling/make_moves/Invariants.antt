@@ -1,4 +1,4 @@
-use Rattle.std.proofs.Common.{◌≡◌, ◌≤◌, ◌+◌, ◌-◌, None}
+use Rattle.std.proofs.Common.{◌≡◌, ℕ, ◌≤◌, ◌+◌, ◌-◌, None}
 use Rattle.std.specs.Prelude.{reverse}
 use Rattle.tf_core.specs.Legal.{IsTakenHistory}
 use Rattle.tf_store.specs.Words.{broken_at, history_of}
@@ -12,7 +12,8 @@ abbrev pub invariant-moves : goal.invariant-moves
 invariant-moves g l = record {
   whole : broken_at l.store ≡ None;
   taken : IsTakenHistory (history_of l.store);
-  made : moves (l.most - l.counter) l.id (reverse (history_of l.store)) ≡ moves l.most l.id (reverse (history_of l.fn.store));
-  left : left_in l.id (reverse (history_of l.store)) + l.counter ≤ l.most;
+  made : moves l.fn.moment (l.most - l.counter) l.id (reverse (history_of l.store)) ≡ moves l.fn.moment l.most l.id (reverse (history_of l.fn.store));
+  left : left_in l.fn.moment l.id (reverse (history_of l.store)) + l.counter ≤ l.most;
+  so_far : (n : ℕ) × (reverse (history_of l.store) ≡ moves l.fn.moment n l.id (reverse (history_of l.fn.store)));
   runs : Runs g.D.Disk.meaning l.fn.store l.store;
 }

@@ -4,14 +4,15 @@ use Rattle.tf_core.specs.Held.{Held}
 use Rattle.tf_core.specs.Ids.{AreIndexed, all_docs}
 use Rattle.tf_core.specs.Kept.{past_in}
 use Rattle.tf_core.specs.Legal.{AreTaken, AreTakenAfter}
-use Rattle.tf_core.specs.Preparing.{ArePrepared}
+use Rattle.tf_core.specs.Preparing.{AllFit, ArePrepared}
 use Rattle.tf_core.specs.Standing.{IsCore, shared}
 use Rattle.tf_core.proofs.ReadyCore.{all_fit, idle_core, new_ids, ready_core}
 use Rattle.tf_core.proofs.state.Core.prepare.Goals as goal
 
 pub make_ready-made-requires-clause-fit : goal.make_ready-made-requires-clause-fit
 make_ready-made-requires-clause-fit c =
-    all_fit (past_in c.self.inside.entries.items) c.args.entries (subst (λ history. AreTakenAfter history c.args.entries) (sym (ap (λ (h : Held). h.history) c.self.view_is)) c.requires.taken)
+    subst (λ ss. AllFit ss c.args.entries) c.self.invariant.stands.indices_are
+    (all_fit (past_in c.self.inside.entries.items) c.args.entries (subst (λ history. AreTakenAfter history c.args.entries) (sym (ap (λ (h : Held). h.history) c.self.view_is)) c.requires.taken))
 
 pub make_ready-made-requires-clause-new : goal.make_ready-made-requires-clause-new
 make_ready-made-requires-clause-new c =

@@ -1,0 +1,91 @@
+// The trees that an index keeps.
+ghost use Rattle.std.specs.Prelude.{◌≡◌, IfOk};
+ghost use Rattle.std.specs.Option.{option_copied};
+ghost use Rattle.tf_core.specs.Allowing as spec;
+ghost use Rattle.tf_mapping.specs.Written as tree_spec;
+
+use crate::index::Index;
+use crate::readable::value_at;
+use std::alloc::Global;
+use tf_mapping::{DocError, read_doc};
+use tf_model::{List, Mapping, OutOfMemory, Text, Tree, Value};
+
+/// The values of a tree that an index keeps where it was written at a moment, none where it does not keep it.
+#[tactic(auto, using(crate::proofs::Written::no_object, crate::proofs::Written::not_read, crate::proofs::Written::kept))]
+pub fn written_values(
+    alloc: Global,
+    index: &Index,
+    at_ms: i64,
+    tree: &Tree,
+) -> Result<Option<List<(Text, Value)>>, OutOfMemory>
+    ensures { IfOk result (λ values. values ≡ spec.written_in index.now at_ms tree.now) }
+{
+    if !is_object(tree) {
+        return Ok(None);
+    }
+    match read_values(alloc, index.mapping(), tree)? {
+        Some(values) => Ok(if_stamped(index.stamp(), at_ms, values)),
+        None => Ok(None),
+    }
+}
+
+/// The values that a mapping reads from a tree, none where it does not read it.
+#[tactic(auto, unfolding(tf_mapping::specs::Documents::reads))]
+pub fn read_values(
+    alloc: Global,
+    mapping: &Mapping,
+    tree: &Tree,
+) -> Result<Option<List<(Text, Value)>>, OutOfMemory>
+    ensures { IfOk result (λ values. values ≡ spec.read_in mapping.now tree.now) }
+{
+    match read_doc(alloc, mapping, None, tree) {
+        Ok(values) => Ok(Some(values)),
+        Err(DocError::Memory) => Err(OutOfMemory),
+        Err(
+            DocError::ManyValues { .. }
+            | DocError::WrongType { .. }
+            | DocError::NotADate { .. }
+            | DocError::OutOfRange { .. }
+            | DocError::Stamped { .. },
+        ) => Ok(None),
+    }
+}
+
+fn is_object(tree: &Tree) -> bool
+    ensures { result ≡ tree_spec.is_object tree.now }
+{
+    tree.as_object().is_some()
+}
+
+// The values, where the stamp has the moment.
+fn if_stamped(
+    stamp: Option<&Text>,
+    at_ms: i64,
+    values: List<(Text, Value)>,
+) -> Option<List<(Text, Value)>>
+    ensures { result ≡ spec.if_stamped (option_copied stamp.entry) at_ms values }
+{
+    if has_moment(stamp, at_ms, values.as_slice()) {
+        Some(values)
+    } else {
+        None
+    }
+}
+
+fn has_moment(stamp: Option<&Text>, at_ms: i64, values: &[(Text, Value)]) -> bool
+    ensures { result ≡ tree_spec.has_moment (option_copied stamp.entry) at_ms values.now }
+{
+    match stamp {
+        None => true,
+        Some(stamp) => is_moment(at_ms, value_at(values, stamp)),
+    }
+}
+
+fn is_moment(at_ms: i64, value: Option<&Value>) -> bool
+    ensures { result ≡ tree_spec.is_moment at_ms (option_copied value.entry) }
+{
+    match value {
+        Some(Value::Date(found)) => *found == at_ms,
+        _ => false,
+    }
+}

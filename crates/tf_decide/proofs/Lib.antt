@@ -1,0 +1,13 @@
+pub mod Lookups
+pub mod Sound
+pub mod Shown
+pub mod Inside
+pub mod SpelledConfigs
+pub mod SpelledEntries
+pub mod StampedSizes
+pub mod Parts
+pub mod Told
+pub mod Kept
+pub mod TakenEntries
+pub mod AskedTaken
+pub mod BulkLaws

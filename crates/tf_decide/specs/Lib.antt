@@ -1,0 +1,8 @@
+pub mod Forms
+pub mod Configs
+pub mod Asking
+pub mod Documents
+pub mod Bulk
+pub mod Ready
+pub mod Replying
+pub mod Rows

@@ -1,0 +1,70 @@
+-- The reply to a command, by what was asked for and the past after it.
+use Rattle.std.specs.Prelude.{ℕ, ℤ, Bool, List, [], ◌++◌, length, map, reverse, take, Option, Some, None}
+use Rattle.std.specs.List.{find}
+use Rattle.tf_model.specs.declared.config.Config.{Config}
+use Rattle.tf_model.specs.declared.config.Shape.{Shape}
+use Rattle.tf_model.specs.declared.config.Shape.TheVariants as shape
+use Rattle.tf_model.specs.declared.entry.Entry.{Entry}
+use Rattle.tf_model.specs.declared.entry.Row.{Row}
+use Rattle.tf_model.specs.declared.entry.Row.TheVariants as row
+use Rattle.tf_model.specs.declared.task.State.TheVariants as state
+use Rattle.tf_model.specs.declared.tree.Tree.{Tree}
+use Rattle.tf_model.specs.declared.tree.Tree.TheVariants as tree
+use Rattle.tf_command.specs.declared.command.Command.{Command}
+use Rattle.tf_reply.specs.declared.replies.Hit.{Hit}
+use Rattle.tf_reply.specs.declared.replies.Reply.{Reply}
+use Rattle.tf_reply.specs.declared.replies.Reply.TheVariants as reply
+use Rattle.tf_reply.specs.Sources.{pivot_source}
+use Rattle.tf_history.specs.Lives.{Life, life}
+use Rattle.tf_history.specs.Meaning.{row_key}
+use Rattle.tf_history.specs.Transforms.{PutTransform, transforms}
+use Rattle.tf_core.specs.Legal.{read}
+use Rattle.tf_core.specs.Lookups.{is_into}
+use Rattle.tf_decide.specs.declared.asked.Answer.{Answer}
+use Rattle.tf_decide.specs.declared.asked.Answer.TheVariants as answer
+use Rattle.tf_decide.specs.declared.asked.Asked.{Asked}
+use Rattle.tf_decide.specs.Asking.{asked}
+
+-- the past after the entries that are asked for
+abbrev pub past_after : List Entry → Asked → List Entry
+past_after past a = reverse a.entries ++ past
+
+-- how a transform stands; one that is not there was never started
+abbrev pub task : ℕ → ℕ → List ℕ → Option Life → Reply
+task line count id None = reply.Task line count id state.Stopped 0
+task line count id (Some l) = reply.Task line count id l.state l.finished
+
+-- ---- rows
+-- the `_source` of a row of a pivot
+abbrev pub source_by : Bool → Shape → Row → Tree
+source_by epoch_millis (shape.Pivot groups aggs) (row.Pivot key values) = pivot_source groups aggs epoch_millis key values
+source_by epoch_millis _ _ = tree.Null
+
+abbrev pub hit_of : Config → Row → Hit
+hit_of c r = record { key = row_key r; source = source_by c.epoch_millis c.shape r }
+
+abbrev pub rows_of : Option Life → List Row
+rows_of None = []
+rows_of (Some l) = l.rows
+
+-- the first ten rows of a destination, and how many there are
+abbrev pub found_rows : ℕ → ℕ → Config → List Row → Reply
+found_rows line count c rows = reply.Found line count (map (hit_of c) (take 10 rows)) (length rows)
+
+abbrev pub found : ℕ → ℕ → List Entry → Option PutTransform → Reply
+found line count now None = reply.Found line count [] 0
+found line count now (Some p) = found_rows line count p.config (rows_of (life p.id (read now)))
+
+-- the reply to a line by the pasts before and after it
+abbrev pub reply_by : ℕ → List Entry → List Entry → Answer → Reply
+reply_by line before now answer.Created = reply.Created line (length now)
+reply_by line before now (answer.Written seq shard) = reply.Written line (length now) seq shard
+reply_by line before now (answer.Tried items) = reply.Bulk line (length now) (length before) items
+reply_by line before now (answer.Started id) = task line (length now) id (life id (read now))
+reply_by line before now answer.Settled = reply.Settled line (length now)
+reply_by line before now (answer.Shown name) = found line (length now) now (find (is_into name) (transforms now))
+reply_by line before now (answer.Refused r) = reply.Refused line (length now) r
+
+-- the reply to a command that is done after a past by an actor, where a moment is given, when its entries are there
+abbrev pub replied : List Entry → ℕ → ℤ → Command → Reply
+replied past actor given command = let a = asked past actor given command.op in reply_by command.line past (past_after past a) a.answer

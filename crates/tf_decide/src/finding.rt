@@ -1,0 +1,32 @@
+// What commands find in a core.
+ghost use Rattle.std.specs.Prelude.{◌≡◌, reverse};
+ghost use Rattle.tf_history.specs.Catalogue.{catalogue, number_of};
+ghost use Rattle.tf_decide.specs.Asking as spec;
+
+use tf_core::Core;
+use tf_model::Text;
+
+/// The number of the index with a name.
+pub fn index_number(core: &Core, name: &Text) -> Option<u32>
+    ensures { result ≡ number_of name.now (catalogue (reverse core.now.history)) }
+{
+    core.is_taken();
+    match core.index_number(name) {
+        Some(number) => Some(number as u32),
+        None => None,
+    }
+}
+
+/// Whether a destination has a name.
+pub fn is_dest(core: &Core, name: &Text) -> bool
+    ensures { result ≡ spec.is_dest (reverse core.now.history) name.now }
+{
+    core.transform_into(name).is_some()
+}
+
+/// Whether an index has a name.
+pub fn is_index(core: &Core, name: &Text) -> bool
+    ensures { result ≡ spec.is_index (reverse core.now.history) name.now }
+{
+    core.index_number(name).is_some()
+}

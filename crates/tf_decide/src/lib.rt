@@ -1,0 +1,22 @@
+//! What a command does after a history: the entries that it makes, or why it is refused, and the reply.
+#![tactic(auto)]
+
+mod asked;
+mod asking;
+mod batch;
+mod bulk;
+mod config;
+mod decision;
+mod documents;
+mod finding;
+mod forms;
+mod giving;
+mod indices;
+mod making;
+mod replying;
+mod rows;
+#[cfg(test)]
+mod tests;
+mod transforms;
+
+pub use decision::{Decision, decide};

@@ -1,0 +1,57 @@
+-- Which entries come next as one frame of the file: those of a command, or that of a move.
+use Rattle.std.specs.Prelude.{◌≡◌, ◌⊎◌, ℕ, ℤ, ◌+◌, Bool, true, false, List, [], ◌∷◌, reverse, Option, Some, None, Result, Ok, Err}
+use Rattle.tf_model.specs.declared.entry.Entry.{Entry}
+use Rattle.tf_command.specs.Commands.{command_of}
+use Rattle.tf_command.specs.Lines.{is_blank}
+use Rattle.tf_command.specs.declared.command.Command.{Command}
+use Rattle.tf_command.specs.declared.command.LineError.{LineError}
+use Rattle.tf_history.specs.Transforms.{PutTransform, transforms}
+use Rattle.tf_core.specs.Lookups.{head_of}
+use Rattle.tf_serial.specs.Moves.{moves, next_move}
+use Rattle.tf_serial.specs.Script.{after_line, asked, given, is_settle}
+
+-- behind a history, entries come next as one frame
+abbrev pub Frames : Type 1
+Frames = List Entry → List Entry → Type 0
+
+-- these entries behind this history alone
+abbrev pub IsOnly : List Entry → List Entry → Frames
+IsOnly history entries left next = (left ≡ history) × (next ≡ entries)
+
+-- the moves of a transform from a past on: so many are made, and the entry of the next one comes
+pub record IsMove (moment : ℤ) (id : List ℕ) (past left next : List Entry) : Type 0 where
+  pub made : ℕ
+  pub behind : reverse left ≡ moves moment made id past
+  pub entry : Entry
+  pub is : next_move moment id (reverse left) ≡ Some entry
+  pub alone : next ≡ entry ∷ []
+
+-- the moves of a settling of a past
+abbrev pub IsSettlingBy : ℤ → List Entry → Option PutTransform → Frames
+IsSettlingBy moment past None left next = ⊥
+IsSettlingBy moment past (Some p) left next = IsMove moment p.id past left next
+
+abbrev pub IsSettling : ℤ → List Entry → Frames
+IsSettling moment past = IsSettlingBy moment past (head_of (transforms past))
+
+-- what a command makes of a past
+abbrev pub IsOfCommand : Bool → List Entry → Command → Frames
+IsOfCommand true past command left next = IsSettling (given past command) past left next
+IsOfCommand false past command left next = IsOnly (reverse past) (asked past command).entries left next
+
+abbrev pub IsOfReading : List Entry → Result Command LineError → Frames
+IsOfReading past (Ok command) left next = IsOfCommand (is_settle command.op) past command left next
+IsOfReading past (Err error) left next = ⊥
+
+-- what the line with a number makes of a past
+abbrev pub IsOfLineBy : Bool → List Entry → ℕ → List ℕ → Frames
+IsOfLineBy true past number line left next = ⊥
+IsOfLineBy false past number line left next = IsOfReading past (command_of number line) left next
+
+abbrev pub IsOfLine : List Entry → ℕ → List ℕ → Frames
+IsOfLine past number line = IsOfLineBy (is_blank line) past number line
+
+-- what lines from a number on make of a past
+abbrev pub IsOfLines : List Entry → ℕ → List (List ℕ) → Frames
+IsOfLines past number [] left next = ⊥
+IsOfLines past number (line ∷ lines) left next = IsOfLine past number line left next ⊎ IsOfLines (after_line past number line) (number + 1) lines left next

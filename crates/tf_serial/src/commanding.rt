@@ -1,0 +1,97 @@
+// Doing a command.
+ghost use Rattle.std.specs.Prelude.{◌≡◌, ◌++◌, IfErr, IfOk, None, OnOk, length, reverse};
+ghost use Rattle.tf_command.specs.Formed.{IsFormed};
+ghost use Rattle.tf_reply.specs.declared.replies.Reply.TheVariants as reply;
+ghost use Rattle.tf_decide.specs.Asking as decide;
+ghost use Rattle.tf_decide.specs.Replying.{past_after, replied};
+ghost use Rattle.tf_serial.specs.Frames.{IsOfCommand, IsOnly, IsSettling};
+ghost use Rattle.tf_serial.specs.Moves.{settled};
+ghost use Rattle.tf_serial.specs.Parts.{Runs, Stops};
+ghost use Rattle.tf_serial.specs.Script as spec;
+ghost use Rattle.tf_serial.specs.Script.{after_command, reply_of};
+ghost use Rattle.tf_store.specs.Commands.{entries_of};
+ghost use Rattle.tf_store.specs.Words.{broken_at, history_of};
+
+use crate::settling::settle;
+use std::alloc::Global;
+use tf_command::{Command, Op};
+use tf_disk::Disk;
+use tf_reply::Reply;
+use tf_store::{Store, StoreError};
+
+/// Does a command, and gives the reply.
+pub fn do_command<D: Disk>(
+    alloc: Global,
+    store: &mut Store<D>,
+    command: Command,
+) -> Result<Reply, StoreError>
+    requires whole { broken_at store.old ≡ None }
+    requires formed { IsFormed command }
+    ensures reply { IfOk result (λ reply. reply ≡ reply_of (reverse (history_of store.old)) command) }
+    ensures after { OnOk result (reverse (history_of store.new) ≡ after_command (reverse (history_of store.old)) command) }
+    ensures whole { OnOk result (broken_at store.new ≡ None) }
+    ensures stops { IfErr result (Stops D.meaning (IsOfCommand (spec.is_settle command.op) (reverse (history_of store.old)) command) store.old (reverse (after_command (reverse (history_of store.old)) command)) store.new) }
+    ensures runs { Runs D.meaning store.old store.new }
+{
+    let moment = given(store, &command);
+    if is_settle(&command.op) {
+        do_moves(alloc, store, command.line, moment)
+    } else {
+        do_entries(store, command, moment)
+    }
+}
+
+// The moment that a command gives, or that of the newest entry where it gives none.
+#[tactic(auto, using(tf_core::proofs::LastMoment::last_is_newest))]
+fn given<D: Disk>(store: &Store<D>, command: &Command) -> i64
+    ensures { result ≡ spec.given (reverse (history_of store.now)) command.now }
+{
+    match command.at_ms {
+        Some(at_ms) => at_ms,
+        None => store.last_ms(),
+    }
+}
+
+fn is_settle(op: &Op) -> bool
+    ensures { result ≡ spec.is_settle op.now }
+{
+    matches!(op, Op::Settle)
+}
+
+// Makes moves until there is none, and gives the reply.
+fn do_moves<D: Disk>(
+    alloc: Global,
+    store: &mut Store<D>,
+    line: u64,
+    moment: i64,
+) -> Result<Reply, StoreError>
+    requires whole { broken_at store.old ≡ None }
+    ensures reply { IfOk result (λ told. told ≡ reply.Settled line (length (reverse (history_of store.new)))) }
+    ensures after { OnOk result (reverse (history_of store.new) ≡ settled moment (reverse (history_of store.old))) }
+    ensures whole { OnOk result (broken_at store.new ≡ None) }
+    ensures stops { IfErr result (Stops D.meaning (IsSettling moment (reverse (history_of store.old))) store.old (reverse (settled moment (reverse (history_of store.old)))) store.new) }
+    ensures runs { Runs D.meaning store.old store.new }
+{
+    settle(alloc, store, moment)?;
+    Ok(Reply::Settled {
+        line,
+        no: store.count(),
+    })
+}
+
+// Commits the entries of a command that is no settling, and gives the reply.
+fn do_entries<D: Disk>(
+    store: &mut Store<D>,
+    command: Command,
+    moment: i64,
+) -> Result<Reply, StoreError>
+    requires whole { broken_at store.old ≡ None }
+    requires formed { IsFormed command }
+    ensures reply { IfOk result (λ reply. reply ≡ replied (reverse (history_of store.old)) 0 moment command) }
+    ensures after { OnOk result (history_of store.new ≡ history_of store.old ++ entries_of (history_of store.old) 0 moment command) }
+    ensures whole { OnOk result (broken_at store.new ≡ None) }
+    ensures stops { IfErr result (Stops D.meaning (IsOnly (history_of store.old) (entries_of (history_of store.old) 0 moment command)) store.old (history_of store.old ++ entries_of (history_of store.old) 0 moment command) store.new) }
+    ensures runs { Runs D.meaning store.old store.new }
+{
+    store.submit(command, 0, moment)
+}

@@ -1,0 +1,43 @@
+// Submitting commands over a disk in memory.
+use crate::*;
+use std::alloc::Global;
+use std::test::Fail;
+use tf_command::read_command;
+use tf_disk::{Disk, MemDisk};
+use tf_reply::Reply;
+
+const INDEX: &[u8] =
+    b"{\"op\":\"create_index\",\"index\":\"s\",\"mappings\":{\"properties\":{\"k\":{\"type\":\"keyword\"}}}}";
+
+const SEARCH: &[u8] = b"{\"op\":\"search\",\"index\":\"t\"}";
+
+// Submits the command of a line.
+fn submit_line<D: Disk>(
+    alloc: Global,
+    store: &mut Store<D>,
+    line: &[u8],
+) -> Result<Result<Reply, StoreError>, Fail> {
+    let command = read_command(alloc, line, 1).ok().ok_or("no command")?;
+    Ok(store.submit(command, 0, 1000))
+}
+
+#[test]
+fn commands_are_committed_and_replied(rt: HostRuntime) -> Result<(), Fail> {
+    let alloc = rt.alloc();
+    let disk = MemDisk::new(alloc, b"", &[])?;
+    let Some(mut store) = Store::open(alloc, disk).ok() else {
+        panic!(rt; "not opened")
+    };
+    let created = submit_line(alloc, &mut store, INDEX)?;
+    assert!(rt; matches!(created, Ok(Reply::Created { line: 1, no: 1 })));
+    assert_eq!(rt; store.last_ms(), 1000);
+    assert_eq!(rt; store.moment(900), 1000);
+    let again = submit_line(alloc, &mut store, INDEX)?;
+    assert!(rt; matches!(again, Ok(Reply::Refused { line: 1, no: 1, .. })));
+    let search = submit_line(alloc, &mut store, SEARCH)?;
+    assert!(rt; matches!(search, Ok(Reply::Refused { line: 1, no: 1, .. })));
+    assert_eq!(rt; store.count(), 1);
+    // those of the opening, and four for the one commit
+    assert_eq!(rt; store.into_disk().calls(), 8);
+    Ok(())
+}
