@@ -21,22 +21,34 @@ fn submit_line<D: Disk>(
     Ok(store.submit(command, 0, 1000))
 }
 
-#[test]
-fn commands_are_committed_and_replied(rt: HostRuntime) -> Result<(), Fail> {
-    let alloc = rt.alloc();
+// A store over an empty disk, and the reply to the line that creates an index.
+fn created(alloc: Global) -> Result<(Store<MemDisk>, Reply), Fail> {
     let disk = MemDisk::new(alloc, b"", &[])?;
-    let Some(mut store) = Store::open(alloc, disk).ok() else {
-        panic!(rt; "not opened")
-    };
-    let created = submit_line(alloc, &mut store, INDEX)?;
-    assert!(rt; matches!(created, Ok(Reply::Created { line: 1, no: 1 })));
+    let mut store = Store::open(alloc, disk).ok().ok_or("not opened")?;
+    let reply = submit_line(alloc, &mut store, INDEX)?
+        .ok()
+        .ok_or("not done")?;
+    Ok((store, reply))
+}
+
+#[test]
+fn a_command_is_committed_and_replied(rt: HostRuntime) -> Result<(), Fail> {
+    let (store, reply) = created(rt.alloc())?;
+    assert!(rt; matches!(reply, Reply::Created { line: 1, no: 1 }));
     assert_eq!(rt; store.last_ms(), 1000);
     assert_eq!(rt; store.moment(900), 1000);
-    let again = submit_line(alloc, &mut store, INDEX)?;
-    assert!(rt; matches!(again, Ok(Reply::Refused { line: 1, no: 1, .. })));
-    let search = submit_line(alloc, &mut store, SEARCH)?;
-    assert!(rt; matches!(search, Ok(Reply::Refused { line: 1, no: 1, .. })));
     assert_eq!(rt; store.count(), 1);
+    Ok(())
+}
+
+#[test]
+fn refused_commands_make_no_call(rt: HostRuntime) -> Result<(), Fail> {
+    let alloc = rt.alloc();
+    let (mut store, _) = created(alloc)?;
+    for line in [INDEX, SEARCH] {
+        let refused = submit_line(alloc, &mut store, line)?;
+        assert!(rt; matches!(refused, Ok(Reply::Refused { line: 1, no: 1, .. })));
+    }
     // those of the opening, and four for the one commit
     assert_eq!(rt; store.into_disk().calls(), 8);
     Ok(())
