@@ -9,6 +9,7 @@ mod least;
 mod matching;
 mod nesting;
 mod reading;
+mod typing;
 mod unknown;
 mod unmapped;
 mod values;
@@ -16,7 +17,9 @@ mod values;
 pub use counting::{counts, is_in_window};
 pub use error::QueryError;
 pub use matching::matches;
+pub use nesting::nests_within;
 pub use reading::read_query;
+pub use typing::has_types;
 
 #[cfg(test)]
 mod tests;

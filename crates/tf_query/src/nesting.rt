@@ -5,10 +5,10 @@ ghost use Rattle.tf_query.specs.Reading.{nesting};
 
 use tf_model::Query;
 
-/// Whether queries nest at most so deep. One without others inside counts as 1.
+/// Whether queries nest at most so deep. One without others inside counts as 1. Takes no memory.
 #[cycle(nesting)]
 #[tactic(auto, using(crate::proofs::NestingLaws::nestings))]
-pub(crate) fn nests_within(query: &Query, most: u32) -> bool
+pub fn nests_within(query: &Query, most: u32) -> bool
     ensures { result ≡ nat_le (nesting query.now) most }
 {
     match query {

@@ -1,7 +1,9 @@
 // The values of a query, by the types of their fields.
 ghost use Rattle.std.specs.Prelude.{◌≡◌, IfOk};
 ghost use Rattle.std.specs.Option.{option_map, option_or};
+ghost use Rattle.tf_model.specs.Rows.{fits_i64};
 ghost use Rattle.tf_model.specs.Trees.{text_in};
+ghost use Rattle.tf_time.specs.Dates.{is_date};
 ghost use Rattle.tf_query.specs.Values as spec;
 
 use std::alloc::Global;
@@ -31,6 +33,20 @@ pub(crate) fn value_by(
     }
 }
 
+/// Whether a number is in `i64`.
+pub(crate) fn fits_i64(number: i128) -> bool
+    ensures { result ≡ fits_i64 number }
+{
+    -9_223_372_036_854_775_808 <= number && number <= 9_223_372_036_854_775_807
+}
+
+/// Whether a number of milliseconds since 1970 is a date of the years 0 to 9999.
+pub(crate) fn is_date(ms: i128) -> bool
+    ensures { result ≡ is_date ms }
+{
+    FIRST_DATE <= ms && ms <= LAST_DATE
+}
+
 // A text.
 fn keyword_in(alloc: Global, tree: &Tree) -> Result<Option<Value>, OutOfMemory>
     ensures { IfOk result (λ value. value ≡ option_map Value.Str (text_in tree.now)) }
@@ -46,11 +62,7 @@ fn long_in(tree: &Tree) -> Option<i128>
     ensures { result ≡ spec.long_in tree.now }
 {
     let number = tree.as_number()?;
-    if -9_223_372_036_854_775_808 <= number && number <= 9_223_372_036_854_775_807 {
-        Some(number)
-    } else {
-        None
-    }
+    if fits_i64(number) { Some(number) } else { None }
 }
 
 // A date as a number or a text, in milliseconds since 1970.
@@ -67,7 +79,7 @@ fn moment_in(tree: &Tree) -> Option<i64>
     ensures { result ≡ spec.moment_in tree.now }
 {
     let number = tree.as_number()?;
-    if FIRST_DATE <= number && number <= LAST_DATE {
+    if is_date(number) {
         Some(number as i64)
     } else {
         None

@@ -1,0 +1,12 @@
+pub mod Catalogue
+pub mod Checks
+pub mod Refusals
+pub mod FieldTests
+pub mod Table
+pub mod Forms
+pub mod Members
+pub mod Drafts
+pub mod Reading
+pub mod Walked
+pub mod Clear
+pub mod Laws
