@@ -1,5 +1,5 @@
 -- What a run over a file leaves, from the answers of its steps.
-use Rattle.std.proofs.Common.{◌≡◌, ◌⊎◌, ℕ, ◌+◌, ◌<◌, ◌≤◌, ◌^◌, List, Option, None, Some, [], ◌∷◌, ◌++◌, length, take, reverse, refl, sym, ap, subst, ◌∙◌, arith, inl, inr}
+use Rattle.std.proofs.Common.{◌≡◌, ℕ, ◌+◌, ◌<◌, ◌≤◌, ◌^◌, List, Option, length, take, reverse, refl, sym, subst, arith, inl, inr}
 use Rattle.std.specs.Io.KnownBytes.{Appends}
 use mathlib.Core.List.{IsPrefix}
 use Rattle.tf_model.specs.Causes.{Rose}
@@ -16,7 +16,7 @@ use Rattle.tf_store.specs.declared.error.StoreError.TheVariants as store_error
 use Rattle.tf_serial.specs.Frames.{IsOfLines}
 use Rattle.tf_serial.specs.Parts.{IsStop}
 use Rattle.tf_serial.specs.Script.{history_after, output}
-use Rattle.tf_cli.specs.Top.{AfterOpening, Finds, HoldsAll, IsLeft, IsLeftOver, IsSound, IsWritten, stopped, unopened}
+use Rattle.tf_cli.specs.Top.{Finds, HoldsAll, IsLeft, IsLeftOver, IsSound, IsWritten, stopped, unopened}
 use Rattle.tf_cli.specs.declared.outcome.Outcome.{Outcome}
 use Rattle.tf_cli.specs.declared.outcome.Outcome.TheVariants as outcome
 use Rattle.tf_cli.proofs.Held.{holds_all, may_hold}
@@ -45,8 +45,13 @@ module _ {D : Type 0} (m : Meaning D) (before : D) (written_before written_now :
   pub ran : (now : D) (t len : ℕ) (o : Outcome) (text : List ℕ) → IsWritten written_before written_now sink_before sink_now text o → text ≡ output (reverse first) 1 lines
       → IsSound first (history_after first lines) → ∥ HoldsAll m t first (history_after first lines) len now ∥₁ → IsLeftOver m before now written_before written_now sink_before sink_now lines t first o
   ran now t len outcome.Done text written is sound held = record { wrote = subst (Appends written_before written_now) is written; sound = sound; len = len; held = held }
-  ran now t len (outcome.WriteFault taken) text written is sound held =
-      (written.0, record { wrote = subst (λ x. Appends written_before written_now (take taken x)) is written.1; sound = sound; len = len; held = held })
+  ran now t len (outcome.WriteFault taken) text written is sound held = (
+    written.0,
+    record {
+      ran = record { wrote = subst (λ x. Appends written_before written_now (take taken x)) is written.2; sound = sound; len = len; held = held };
+      partly = subst (λ x. taken < length x) is written.1;
+    },
+  )
   ran now t len (outcome.DiskFault entries) text written is sound held = absurd written
   ran now t len (outcome.Damaged frame) text written is sound held = absurd written
   ran now t len outcome.Memory text written is sound held = absurd written

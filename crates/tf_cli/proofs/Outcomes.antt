@@ -1,11 +1,10 @@
 -- What a run over a file leaves, by its status.
-use Rattle.std.proofs.Common.{◌≡◌, ◌≢◌, ◌⊎◌, ℕ, ◌≤◌, List, Option, length, take, arith, subst, inl, inr, refl}
+use Rattle.std.proofs.Common.{◌≡◌, ◌≢◌, ◌⊎◌, ℕ, List, Option, arith, subst, inl, inr, refl}
 use Rattle.tf_model.specs.Causes.{Rose}
-use Rattle.tf_io.specs.Lines.{script_lines}
-use Rattle.tf_io.specs.Reads.{ReadsLines, TakesCount}
+use Rattle.tf_io.specs.Reads.{ReadsLines}
 use Rattle.tf_disk.specs.Disk.{Meaning}
 use Rattle.tf_store.specs.Answers.{LeavesContent}
-use Rattle.tf_cli.specs.Top.{AfterOpening, FailedToOpen, IsDamaged, IsLeft, IsRunStatus, NotWritten, OfScript, Ran, StoppedByDisk, StoppedFull, StoppedShort, ended, max_script}
+use Rattle.tf_cli.specs.Top.{AfterOpening, FailedToOpen, HasNoDetail, IsDamaged, IsLeft, IsRunStatus, NotWritten, OfScript, Ran, RanPartly, StoppedByDisk, StoppedFull, StoppedShort, ended, max_script}
 use Rattle.tf_cli.specs.declared.outcome.Outcome.{Outcome}
 use Rattle.tf_cli.specs.declared.outcome.Outcome.TheVariants as outcome
 
@@ -41,6 +40,23 @@ not_of_file (outcome.Full len) (inl is) = omega (arith, is)
 not_of_file (outcome.Full len) (inr (inl is)) = omega (arith, is)
 not_of_file (outcome.Full len) (inr (inr is)) = omega (arith, is)
 
+-- a run over a file that ends without a detail tells 0
+pub run_no_detail : (o : Outcome) → HasNoDetail (ended o).status → (ended o).detail ≡ 0
+run_no_detail outcome.Done none = refl
+run_no_detail (outcome.WriteFault taken) (inl is) = absurd (omega (arith, is))
+run_no_detail (outcome.WriteFault taken) (inr (inl is)) = absurd (omega (arith, is))
+run_no_detail (outcome.WriteFault taken) (inr (inr is)) = absurd (omega (arith, is))
+run_no_detail (outcome.DiskFault entries) (inl is) = absurd (omega (arith, is))
+run_no_detail (outcome.DiskFault entries) (inr (inl is)) = absurd (omega (arith, is))
+run_no_detail (outcome.DiskFault entries) (inr (inr is)) = absurd (omega (arith, is))
+run_no_detail (outcome.Damaged frame) (inl is) = absurd (omega (arith, is))
+run_no_detail (outcome.Damaged frame) (inr (inl is)) = absurd (omega (arith, is))
+run_no_detail (outcome.Damaged frame) (inr (inr is)) = absurd (omega (arith, is))
+run_no_detail outcome.Memory none = refl
+run_no_detail (outcome.Full len) (inl is) = absurd (omega (arith, is))
+run_no_detail (outcome.Full len) (inr (inl is)) = absurd (omega (arith, is))
+run_no_detail (outcome.Full len) (inr (inr is)) = absurd (omega (arith, is))
+
 pub not_written : (P : Type 0) (o : Outcome) → NotWritten o P → (ended o).status ≢ 0 → (ended o).status ≢ 4 → P
 not_written P outcome.Done h none other = absurd (none refl)
 not_written P (outcome.WriteFault taken) h none other = absurd (other refl)
@@ -61,7 +77,7 @@ module _ {D : Type 0} (m : Meaning D) (before now : D) (written_before written_n
   done outcome.Memory left is = absurd (omega (arith, is))
   done (outcome.Full len) left is = absurd (omega (arith, is))
 
-  pub write_fault : (o : Outcome) → Left o → (ended o).status ≡ 4 → Rose sink_before sink_now × AfterOpening m before (λ t. Ran m t now written_before written_now (λ output. take (ended o).detail output) lines)
+  pub write_fault : (o : Outcome) → Left o → (ended o).status ≡ 4 → Rose sink_before sink_now × AfterOpening m before (λ t. RanPartly m t now written_before written_now (ended o).detail lines)
   write_fault outcome.Done left is = absurd (omega (arith, is))
   write_fault (outcome.WriteFault taken) left is = left
   write_fault (outcome.DiskFault entries) left is = absurd (omega (arith, is))

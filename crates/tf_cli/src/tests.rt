@@ -38,7 +38,11 @@ fn run(alloc: Global, src: &mut MemSource, out: &mut MemSink) -> Result<(End, u6
 }
 
 // The end of `run j` over a script and a file, with the disk and the sink that it leaves.
-fn run_on(alloc: Global, script: &[u8], disk: MemDisk) -> Result<(End, MemDisk, MemSink), Fail> {
+pub(crate) fn run_on(
+    alloc: Global,
+    script: &[u8],
+    disk: MemDisk,
+) -> Result<(End, MemDisk, MemSink), Fail> {
     let mut src = MemSource::new(alloc, script, &[])?;
     let mut out = MemSink::new(alloc, &[], &[])?;
     let (end, disk) = run_top(
@@ -66,7 +70,7 @@ fn a_script_is_answered(rt: HostRuntime) -> Result<(), Fail> {
 #[test]
 fn lines_after_a_finished_checkpoint(rt: HostRuntime) -> Result<(), Fail> {
     // Each line after those of the pivot, and the reply to it.
-    let rows: [(&str, &str); 11] = [
+    let rows: [(&str, &str); 10] = [
         (
             "{\"op\":\"search\",\"index\":\"d\"}",
             "{\"hits\":[{\"_id\":\"[\\\"a\\\"]\",\"_source\":{\"n\":-5,\"z\":\"a\"}}],\"line\":6,\"no\":8,\"total\":1}\n",
@@ -92,16 +96,12 @@ fn lines_after_a_finished_checkpoint(rt: HostRuntime) -> Result<(), Fail> {
             "{\"error\":\"version_conflict\",\"id\":\"1\",\"line\":6,\"no\":8,\"seq\":0,\"shard\":0}\n",
         ),
         (
-            "{\"op\":\"index\",\"index\":\"s\",\"id\":\"2\",\"doc\":{\"k\":\"b\",\"v\":1000000001}}",
-            "{\"error\":\"unsupported_yet\",\"line\":6,\"no\":8}\n",
-        ),
-        (
-            "{\"op\":\"index\",\"index\":\"s\",\"id\":\"2\",\"doc\":{\"k\":\"b\",\"v\":1000000000}}",
+            "{\"op\":\"index\",\"index\":\"s\",\"id\":\"2\",\"doc\":{\"k\":\"b\",\"v\":9223372036854775807}}",
             "{\"line\":6,\"no\":9,\"result\":\"created\",\"seq\":1,\"shard\":0}\n",
         ),
         (
             "{\"op\":\"start\",\"id\":\"t\"}",
-            "{\"error\":\"unsupported_yet\",\"line\":6,\"no\":8}\n",
+            "{\"error\":\"already_finished\",\"id\":\"t\",\"line\":6,\"no\":8,\"state\":\"stopped\"}\n",
         ),
         (
             "{\"op\":\"settle\"}",

@@ -1,10 +1,10 @@
 // The top call.
-ghost use Rattle.std.specs.Prelude.{◌≡◌, ◌⊎◌, ◌≢◌, ◌<◌, ◌≤◌, ◌↔◌, ℕ, None, map, string_bytes, take};
+ghost use Rattle.std.specs.Prelude.{◌≡◌, ◌⊎◌, ◌≢◌, ◌<◌, ◌≤◌, ◌↔◌, ℕ, None, map, string_bytes};
 ghost use Rattle.tf_model.specs.Causes.{Rose};
 ghost use Rattle.tf_io.specs.Reads.{TakesCount};
 ghost use Rattle.tf_store.specs.Answers.{LeavesContent};
 ghost use Rattle.tf_cli.specs.Words.{file_of_run};
-ghost use Rattle.tf_cli.specs.Top.{AfterOpening, FailedToOpen, IsDamaged, IsRunStatus, OfScript, Ran, StoppedByDisk, StoppedFull, StoppedShort, max_script, reading_ended};
+ghost use Rattle.tf_cli.specs.Top.{AfterOpening, FailedToOpen, HasNoDetail, IsDamaged, IsRunStatus, OfScript, Ran, RanPartly, StoppedByDisk, StoppedFull, StoppedShort, max_script, reading_ended};
 
 use crate::running::run_file;
 use crate::words::file_word;
@@ -47,6 +47,9 @@ pub fn run_top<S: Source, K: Sink, D: Disk>(
     // It answers one of these statuses.
     ensures status { IsRunStatus result.0.status }
 
+    // At the statuses 0, 2 and 8 the detail is 0.
+    ensures no_detail { HasNoDetail result.0.status → result.0.detail ≡ 0 }
+
     // Status 0: the source was read to its end, a history was found in the file, the sink gained the replies to the lines done
     // from there, and the file has the history that the lines make.
     ensures done { result.0.status ≡ 0 → OfScript (S.left src.old) (S.left src.new) (λ lines.
@@ -59,10 +62,10 @@ pub fn run_top<S: Source, K: Sink, D: Disk>(
     // Status 3 comes only where the source failed in this call.
     ensures read_fault { result.0.status ≡ 3 → Rose (S.faults src.old) (S.faults src.new) × TakesCount (S.left src.old) (S.left src.new) result.0.detail }
 
-    // Status 4 comes only where the sink failed in this call. It has then the first bytes of the replies, and all lines are
-    // in the file.
+    // Status 4 comes only where the sink failed in this call. It has then the first bytes of the replies, not all of
+    // them, and all lines are in the file.
     ensures write_fault { result.0.status ≡ 4 → Rose (K.faults out.old) (K.faults out.new) × OfScript (S.left src.old) (S.left src.new) (λ lines.
-        AfterOpening D.meaning disk (λ t. Ran D.meaning t result.1 (K.written out.old) (K.written out.new) (λ output. take result.0.detail output) lines)) }
+        AfterOpening D.meaning disk (λ t. RanPartly D.meaning t result.1 (K.written out.old) (K.written out.new) result.0.detail lines)) }
 
     // Status 5 comes only where the disk failed in this call: while the file was opened, or while the lines were done.
     ensures disk_fault { result.0.status ≡ 5 → Rose (D.meaning.faults disk) (D.meaning.faults result.1) × OfScript (S.left src.old) (S.left src.new) (λ lines.

@@ -1,5 +1,5 @@
 -- What is inside a tree that a line can be is such a tree too.
-use Rattle.std.proofs.Common.{◌≡◌, ℕ, zero, suc, Bool, true, false, cond, List, [], ◌∷◌, Some, IsUtf8, sym, ap, subst, ◌∙◌, ◌≤◌, ◌++◌, map, flat_map, length, length-append, arith, nat_lt, ◌/◌, ◌%◌}
+use Rattle.std.proofs.Common.{◌≡◌, ℕ, zero, suc, Bool, true, false, cond, List, [], ◌∷◌, Some, IsUtf8, sym, ap, subst, ◌∙◌, ◌≤◌, ◌+◌, ◌++◌, map, flat_map, length, length-append, arith, nat_lt, ◌/◌, ◌%◌}
 use Rattle.std.specs.List.{AllByRecursion}
 use Rattle.tf_model.specs.declared.tree.Tree.{Tree, out-Tree, map-Tree, roll-out-Tree, fold-roll-Tree}
 use Rattle.tf_model.specs.declared.tree.Tree.TheOpen.{Tree-F}
@@ -138,6 +138,19 @@ members_short n t members h e = each_paired n false members (omega (arith, h, ap
 items_short : (n : ℕ) (t : Tree) (items : List Tree) → length (printed t) ≤ n → items_in t ≡ Some items → AllByRecursion (λ x. length (printed x) ≤ n) items
 unfolding items_in
 items_short n t items h e = each_listed n false items (omega (arith, h, ap length (printed_level t ∙ items_level_text (out-Tree t) items e)))
+
+each_counted : (items : List Tree) → length items + 1 ≤ length (listed true (map printed items))
+each_counted [] = omega arith
+each_counted (x ∷ xs) = omega (arith, each_counted xs, length-append (printed x) (listed true (map printed xs)))
+
+all_counted : (items : List Tree) → length items ≤ length (listed false (map printed items))
+all_counted [] = omega arith
+all_counted (x ∷ xs) = omega (arith, each_counted xs, length-append (printed x) (listed true (map printed xs)))
+
+-- no more items than the text has bytes
+pub items_few : (n : ℕ) (t : Tree) (items : List Tree) → length (printed t) ≤ n → items_in t ≡ Some items → length items ≤ n
+unfolding items_in
+items_few n t items h e = omega (arith, h, all_counted items, ap length (printed_level t ∙ items_level_text (out-Tree t) items e))
 
 some_bytes : (a b : Bool) (x y z : ℕ) (xs ys : List ℕ) → 1 ≤ length (cond a (x ∷ xs) (cond b (y ∷ ys) (z ∷ [])))
 some_bytes true b x y z xs ys = omega arith

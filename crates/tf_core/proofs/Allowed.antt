@@ -20,6 +20,7 @@ use Rattle.tf_core.specs.Standing.{Stands}
 use Rattle.tf_core.specs.Summary.{put_of}
 use Rattle.tf_core.proofs.Truths.{both, not_true, int_at_most, at_most_int, nat_at_most, at_most_nat, false_not, not_or}
 use Rattle.tf_core.proofs.BuiltPast.{built_past}
+use Rattle.tf_core.proofs.Fields.{ascending_is, is_ascending}
 
 -- ---- moments
 pub timely : (past : List Entry) (at_ms : ℤ) (actor : ℕ) → is_timely (last_ms_in past) at_ms actor ≡ true → IsSpan at_ms × IsNotBefore at_ms (read past) × (actor ≤ 15)
@@ -75,6 +76,7 @@ module _ (past : List Entry) (indices : List SourceIndex) (docs : List Doc) (ts 
       let g = both _ _ f.1 in
       let h = both _ _ g.1 in
       let k = both _ _ h.1 in
+      let n = both _ _ k.1 in
       record {
         well_formed = a.0;
         free = free_is i.name ∙ b.0;
@@ -82,8 +84,9 @@ module _ (past : List Entry) (indices : List SourceIndex) (docs : List Doc) (ts 
         shards = (nat_at_most _ _ d.0, nat_at_most _ _ f.0);
         fields = nat_at_most _ _ g.0;
         field_names = h.0;
-        stamp = stamp_may i i.stamp k.0;
-        slow = not_true i.quick k.1;
+        ascending = ascending_is i.mapping.fields k.0;
+        stamp = stamp_may i i.stamp n.0;
+        slow = not_true i.quick n.1;
       }
 
   pub may_index : (i : SourceIndex) → MayIndex reading past i → takes_index indices ts i ≡ true
@@ -91,4 +94,4 @@ module _ (past : List Entry) (indices : List SourceIndex) (docs : List Doc) (ts 
   may_index i m =
       both_true m.well_formed (both_true (sym (free_is i.name) ∙ m.free) (both_true (lt-ltb _ _ (subst (λ is. length is < 64) s.indices_are m.few))
       (both_true (at_most_nat _ _ m.shards.0) (both_true (at_most_nat _ _ m.shards.1) (both_true (at_most_nat _ _ m.fields) (both_true m.field_names
-      (both_true (may_stamp i i.stamp m.stamp) (false_not i.quick m.slow))))))))
+      (both_true (is_ascending i.mapping.fields m.ascending) (both_true (may_stamp i i.stamp m.stamp) (false_not i.quick m.slow)))))))))

@@ -1,7 +1,11 @@
 -- The tests together say which entries are taken.
-use Rattle.std.proofs.Common.{◌≡◌, ℕ, ◌<◌, ◌≤◌, Bool, true, false, ◌&&◌, List, [], ◌∷◌, length, map, take, Option, Some, None, refl, sym, ap, subst, ◌∙◌, arith}
-use Rattle.std.specs.Prelude.{⊤, ℤ, ◌↔◌, slice_get, IsSomeAnd, IfSome, is_none, reverse, if◌then◌else◌, option_map}
+use Rattle.std.proofs.Common.{◌≡◌, ℕ, ◌<◌, Bool, true, false, ◌&&◌, List, length, map, Option, Some, None, refl, sym, ap, subst, ◌∙◌, arith}
+use Rattle.std.specs.Prelude.{ℤ, ◌↔◌, slice_get, IsSomeAnd, is_none, reverse, option_map}
 use Rattle.std.specs.List.{AllByRecursion, list_all}
+use Rattle.std.specs.Ordering.{eq_by_cmp, int_eq}
+use Rattle.std.specs.Str.{bytes_eq}
+use Rattle.std.proofs.lemmas.Int.{ints}
+use Rattle.std.proofs.lemmas.Slice.Eq.{bytes_eq-Decides}
 use Rattle.std.specs.Cmp.Derive.{both_true}
 use Rattle.std.proofs.lemmas.Option.{same_Some}
 use Rattle.tf_model.specs.declared.doc.Doc.{Doc}
@@ -9,114 +13,102 @@ use Rattle.tf_model.specs.declared.entry.Entry.{Entry}
 use Rattle.tf_model.specs.declared.entry.Kind.{Kind}
 use Rattle.tf_model.specs.declared.entry.Kind.TheVariants as kind
 use Rattle.tf_model.specs.declared.entry.Row.{Row}
-use Rattle.tf_model.specs.declared.tree.Tree.{Tree}
+use Rattle.tf_model.specs.declared.entry.SumRange.{SumRange}
 use Rattle.tf_model.specs.declared.value.Key.{Key}
-use Rattle.tf_model.specs.Changed.{changed_above}
 use Rattle.tf_model.specs.Conditions.{AllFit, IsInRange}
-use Rattle.tf_model.specs.Counted.{counted}
-use Rattle.tf_model.specs.Rows.{sum_range}
-use Rattle.tf_model.specs.Bounds.{risen}
-use Rattle.tf_history.specs.Catalogue.{SourceIndex, catalogue, values_in}
-use Rattle.tf_history.specs.Events.{Event}
-use Rattle.tf_history.specs.Legality.{IsAllowed, IsLegal, MayPage, MayFinish, MayBegin, to_do}
+use Rattle.tf_model.specs.Order.{key_cmp}
+use Rattle.tf_model.proofs.OrderLaws.{key_ties}
+use Rattle.tf_history.specs.Catalogue.{SourceIndex, catalogue}
+use Rattle.tf_history.specs.Legality.{IsAllowed, IsRunning, MayBegin, MayFail, MayFinish, MayPage, is_active, sum_now, told}
 use Rattle.tf_history.specs.Legality as legality
-use Rattle.tf_history.specs.LegalEntries.{IsLegalPast, FitsKind, IsRowOf, MayWrite}
-use Rattle.tf_history.specs.Lives.{Life, Checkpoint, life, documents, read_last, last_bound, next_bound, from_sources}
-use Rattle.tf_history.specs.Meaning.{Meaning}
+use Rattle.tf_history.specs.LegalEntries.{FitsKind, IsRowOf, MayWrite}
+use Rattle.tf_history.specs.Lives.{Life, life, documents, read_last}
 use Rattle.tf_history.specs.Reading.{deed_of}
-use Rattle.tf_history.specs.Transforms.{PutTransform, transform_of, transforms}
-use Rattle.tf_history.proofs.EntriesLaw.{legal_entries_are_legal}
-use Rattle.tf_history.proofs.Induction.{IsKept, holds, legal_known}
-use Rattle.tf_history.proofs.MeaningLaw.{meanings_agree}
+use Rattle.tf_history.specs.Transforms.{PutTransform, transform_of}
 use Rattle.tf_core.specs.declared.transform.Transform.{Transform}
-use Rattle.tf_core.specs.Allowing.{is_timely, may_do, test_at, may_start, may_stop, may_begin, may_page, may_finish, has_none_left, is_row_of, read_by}
-use Rattle.tf_core.specs.Built.{is_built, is_empty, lets_in}
-use Rattle.tf_core.specs.BuiltPast.{HasShard, IsBuiltPut}
-use Rattle.tf_core.specs.Legal.{reading, read, IsTaken, IsTakenPast}
+use Rattle.tf_core.specs.Allowing.{failure, has_none_left, is_empty, is_row_of, is_timely, is_told, keys_left, may_begin, may_do, may_finish, may_page, may_start, may_stop, read_by, test_at}
+use Rattle.tf_core.specs.Built.{is_built}
+use Rattle.tf_core.specs.BuiltPast.{HasShard, IsBuiltIndex, IsBuiltPut}
+use Rattle.tf_core.specs.Legal.{reading, read, IsTaken}
+use Rattle.tf_core.specs.Sources.{AreNamedOnce}
 use Rattle.tf_core.specs.Standing.{Stands}
 use Rattle.tf_core.specs.Summary.{IsSummary, put_of}
 use Rattle.tf_core.specs.Table.{transform_at}
+use Rattle.tf_core.specs.Texts.{HasTexts, HasValues}
 use Rattle.tf_mapping.specs.Documents.{values_of}
 use Rattle.tf_core.proofs.Allowed.{built, timely, is_timely_for, index_may, may_index}
 use Rattle.tf_core.proofs.AllowedDocs.{document_may, may_document}
-use Rattle.tf_core.proofs.AllowedRows.{page_may, may_page_now, finish_may, may_finish_now, rows_are, are_rows, running_of}
+use Rattle.tf_core.proofs.AllowedRows.{page_may, may_page_now, finish_may, running_may, rows_are, are_rows, running_of}
 use Rattle.tf_core.proofs.AllowedTransforms.{life_passes, passes_life, start_is, stop_is, begin_may, may_begin_now, transform_may, may_transform, put_is, form_is}
-use Rattle.tf_core.proofs.Fitting.{IsBuiltForm, IsReadable, built_form, in_range, all_fit, no_range, read_are_few, read_are_readable}
+use Rattle.tf_core.proofs.BuiltPast.{all_weaken}
+use Rattle.tf_core.proofs.FirstCheckpoint.{failing_is, failure_is, key_of, left_is}
+use Rattle.tf_core.proofs.Fitting.{form_of, put_in_range, reads_fit, reads_have}
 use Rattle.tf_core.proofs.LastMoment.{last_is_newest}
 use Rattle.tf_core.proofs.Truths.{both, no_items}
 use Rattle.tf_core.specs.Held.{last_ms_of}
 use Rattle.tf_core.specs.Moves.{last_ms_in}
 
--- a batch transform begins once, without a bound
-abbrev BeginsOnce : List Event → Life → Type 0
-BeginsOnce past l = l.meaning.is_batch ≡ true → (length l.checkpoints ≤ 1) × (last_bound l.checkpoints ≡ None)
+same_int : (a b : ℤ) → int_eq a b ≡ true → a ≡ b
+same_int a b e = grind (arith, ints)
 
-pub unbounded : (c : Meaning) (last : Option ℤ) (moment : ℤ) → c.is_batch ≡ true → next_bound c last moment ≡ None
-unbounded c last moment batch = ap (λ b. if b then None else Some (risen last (c.aligned moment))) batch
+int_same : (a b : ℤ) → a ≡ b → int_eq a b ≡ true
+int_same a b e = grind (arith, ints)
 
-begins_once : IsKept (λ _ _. ⊤) BeginsOnce
-begins_once = record {
-  opened = λ past moment deed c batch. (omega arith, refl);
-  aside = λ past moment deed l legal none h. h;
-  turned = λ past moment deed turn l legal none h. h;
-  wrote = λ past moment d l legal h. h;
-  begun = λ past moment id n bound l legal m h batch. (let none : length l.checkpoints ≡ 0 = ap length (m.once batch) in omega arith, m.bound_is ∙ unbounded l.meaning (last_bound l.checkpoints) moment batch);
-  paged = λ past moment id n rows l legal m r h. h;
-  done = λ past moment id n l legal m h. h;
-}
-
-pub taken_is_legal : (past : List Entry) → IsTakenPast past → IsLegalPast reading past
-taken_is_legal [] taken = tt
-taken_is_legal (e ∷ past) taken = (taken_is_legal past taken.0, taken.1.legal)
-
-pub read_is_legal : (past : List Entry) → IsTakenPast past → IsLegal (read past)
-unfolding reading
-read_is_legal past taken = legal_entries_are_legal reading past (taken_is_legal past taken)
-
-pub once : (past : List Entry) (id : List ℕ) (l : Life) → IsTakenPast past → life id (read past) ≡ Some l → l.meaning.is_batch ≡ true → (length l.checkpoints ≤ 1) × (last_bound l.checkpoints ≡ None)
-once past id l taken is =
-    let legal = read_is_legal past taken in
-    subst (λ o. IfSome o (BeginsOnce (read past))) is (holds (λ _ _. ⊤) BeginsOnce begins_once id (read past) legal (legal_known id (read past) legal))
-
-pub only_one : (cs : List Checkpoint) → 0 < length cs → length cs ≤ 1 → (b : Checkpoint) × (cs ≡ b ∷ [])
-only_one [] some few = absurd (omega arith)
-only_one (b ∷ []) some few = (b, refl)
-only_one (b ∷ a ∷ before) some few = absurd (omega arith)
-
--- ---- what is left to do at the one checkpoint
+-- ---- a finish and a fail of the one checkpoint
 module _ (past : List Entry) (indices : List SourceIndex) (docs : List Doc) (ts : List Transform) (s : Stands past indices docs ts) (id : List ℕ) (t : Transform) (l : Life) (there : transform_at id ts ≡ Some t)
     (is : life id (read past) ≡ Some l) (sum : IsSummary docs t l) where
-  form : IsBuiltForm t.config
-  form = built_form t.config (form_is past indices docs ts s id t there).form
+  begun_some : (n : ℕ) → may_finish t n ≡ true → 0 < length l.checkpoints
+  begun_some n e = let r = running_of docs t l sum n e in omega (arith, r.0, r.1)
 
-  batch : is_none t.config.sync ≡ true
-  batch = ap is_none form.batch
-
-  is_batch : l.meaning.is_batch ≡ true
-  is_batch = ap (λ m. m.is_batch) sum.meaning_is ∙ batch
-
-  pub left_is : 0 < length l.checkpoints → to_do l ≡ changed_above t.config None t.bound t.position (read_by t docs)
-  left_is some =
-      let one = only_one l.checkpoints some (once past id l s.taken is is_batch).0 in
-      let reads : one.0.read ≡ read_by t docs = ap read_last (sym one.1) ∙ (sum.read ∙ ap (λ m. from_sources m (take t.read docs)) sum.meaning_is) in
-      let position : l.position ≡ t.position = sym sum.position in
-      let bound : one.0.bound ≡ t.bound = ap last_bound (sym one.1) ∙ sym sum.bound in
-      (meanings_agree t.sources t.config).to_do_is l one.0 [] sum.meaning_is one.1
-      ∙ (λ i. changed_above t.config None (bound i) (position i) (reads i))
+  running_some : (n : ℕ) → IsRunning l n → 0 < length l.checkpoints
+  running_some n r = omega (arith, r.0, r.1)
 
   pub finish_ok : (n : ℕ) → (may_finish t n && has_none_left t docs) ≡ true → MayFinish l n
   finish_ok n e =
       let parts = both (may_finish t n) (has_none_left t docs) e in
-      let some : 0 < length l.checkpoints = begun_some n parts.0 in
-      finish_may docs t l sum n parts.0 (left_is some ∙ no_items (changed_above t.config None t.bound t.position (read_by t docs)) parts.1)
-    where
-      begun_some : (n : ℕ) → may_finish t n ≡ true → 0 < length l.checkpoints
-      begun_some n e = let r = running_of docs t l sum n e in omega (arith, r.0, r.1)
+      finish_may docs t l sum n parts.0 (left_is past indices docs ts s id t l there is sum (begun_some n parts.0) ∙ no_items (keys_left t docs) parts.1)
 
   pub ok_finish : (n : ℕ) → MayFinish l n → (may_finish t n && has_none_left t docs) ≡ true
-  ok_finish n m =
-      let some : 0 < length l.checkpoints = let r = m.running in omega (arith, r.0, r.1) in
-      both_true (may_finish_now docs t l sum n m) (ap is_empty (sym (left_is some) ∙ m.nothing_left))
+  ok_finish n m = both_true (running_may docs t l sum n m.running m.active) (ap is_empty (sym (left_is past indices docs ts s id t l there is sum (running_some n m.running)) ∙ m.nothing_left))
+
+  -- a sum that is told
+  told_is : (k : Key) (name : List ℕ) (value : ℤ) (o : Option SumRange) → is_told k name value o ≡ true → (found : SumRange) × (o ≡ Some found) × (found.key ≡ k) × (told found ≡ (name, value))
+  told_is k name value None e = absurd (let z : false ≡ true = e in cc)
+  told_is k name value (Some found) e =
+      let a = both (eq_by_cmp key_cmp k found.key) (bytes_eq name found.name && int_eq value found.value) e in
+      let b = both (bytes_eq name found.name) (int_eq value found.value) a.1 in
+      (found, refl, sym ((key_ties k found.key).0 a.0), (λ i. (sym ((bytes_eq-Decides name found.name).0 b.0) i, sym (same_int value found.value b.1) i)))
+
+  is_told_so : (k : Key) (name : List ℕ) (value : ℤ) (found : SumRange) → found.key ≡ k → told found ≡ (name, value) → is_told k name value (Some found) ≡ true
+  is_told_so k name value found key tells =
+      both_true ((key_ties k found.key).1 (sym key)) (both_true ((bytes_eq-Decides name found.name).1 (sym (ap (λ p. p.0) tells))) (int_same value found.value (sym (ap (λ p. p.1) tells))))
+
+  pub fail_ok : (n : ℕ) (k : Key) (name : List ℕ) (value : ℤ) → (may_finish t n && is_told k name value (failure t docs)) ≡ true → MayFail l n k name value
+  fail_ok n k name value e =
+      let parts = both (may_finish t n) (is_told k name value (failure t docs)) e in
+      let some = begun_some n parts.0 in
+      let found = told_is k name value (failure t docs) parts.1 in
+      let active = both _ _ parts.0 in
+      record {
+        running = running_of docs t l sum n parts.0;
+        active = ap is_active (sym sum.state) ∙ active.1;
+        first = failing_is past indices docs ts s id t l there is sum some ∙ (ap (option_map key_of) found.1 ∙ ap Some found.2);
+        tells = ap (λ key. option_map told (sum_now l key)) (sym found.2)
+            ∙ (ap (option_map told) (failure_is past indices docs ts s id t l there is sum some found.0 found.1) ∙ ap Some found.3);
+      }
+
+  pub ok_fail : (n : ℕ) (k : Key) (name : List ℕ) (value : ℤ) → MayFail l n k name value → (may_finish t n && is_told k name value (failure t docs)) ≡ true
+  ok_fail n k name value m =
+      let some = running_some n m.running in
+      both_true (running_may docs t l sum n m.running m.active)
+      (by (failure t docs) refl (sym (failing_is past indices docs ts s id t l there is sum some) ∙ m.first) m.tells)
+    where
+      by : (o : Option SumRange) → failure t docs ≡ o → option_map key_of o ≡ Some k → option_map told (sum_now l k) ≡ Some (name, value) → is_told k name value o ≡ true
+      by None fails first tells = absurd (let z : ◌≡◌ {A = Option Key} None (Some k) = first in cc)
+      by (Some found) fails first tells =
+          let key : found.key ≡ k = same_Some found.key k first in
+          let now : sum_now l k ≡ Some found = ap (sum_now l) (sym key) ∙ failure_is past indices docs ts s id t l there is sum (running_some n m.running) found fails in
+          is_told_so k name value found key (same_Some (told found) (name, value) (sym (ap (option_map told) now) ∙ tells))
 
 -- ---- each kind
 module _ (past : List Entry) (indices : List SourceIndex) (docs : List Doc) (ts : List Transform) (s : Stands past indices docs ts) (moment : ℤ) where
@@ -124,7 +116,7 @@ module _ (past : List Entry) (indices : List SourceIndex) (docs : List Doc) (ts 
   pub record Passes (k : Kind) : Type 0 where
     pub fits : FitsKind reading past moment k
     pub allowed : IsAllowed moment (deed_of values_of (catalogue past) k) (read past)
-    pub built_form : is_built past k ≡ true
+    pub built_form : is_built k ≡ true
 
   from_test : (id : List ℕ) (test : Transform → Bool) (P : Life → Type 0) → ((t : Transform) (l : Life) → transform_at id ts ≡ Some t → life id (read past) ≡ Some l → IsSummary docs t l → test t ≡ true → P l)
       → test_at test (transform_at id ts) ≡ true → IsSomeAnd (life id (read past)) P
@@ -135,7 +127,7 @@ module _ (past : List Entry) (indices : List SourceIndex) (docs : List Doc) (ts 
   to_test id test P f p = passes_life docs (transform_at id ts) (life id (read past)) test P (s.lives id) f p
 
   batch_of : (id : List ℕ) (t : Transform) → transform_at id ts ≡ Some t → is_none t.config.sync ≡ true
-  batch_of id t there = ap is_none (built_form t.config (form_is past indices docs ts s id t there).form).batch
+  batch_of id t there = ap is_none (form_of t.config (form_is past indices docs ts s id t there).form).batch
 
   -- the rows of a page, by the transform that was put
   abbrev RowsFit : List ℕ → List Row → Type 0
@@ -162,25 +154,19 @@ module _ (past : List Entry) (indices : List SourceIndex) (docs : List Doc) (ts 
       let here : IsSomeAnd (option_map put_of (Some t)) (λ (p : PutTransform). IsSomeAnd (Some l) (λ l. AllByRecursion (IsRowOf p.config.shape (read_last l.checkpoints)) rows))
       = subst (λ o. IsSomeAnd (option_map put_of (Some t)) (λ (p : PutTransform). IsSomeAnd o (λ l. AllByRecursion (IsRowOf p.config.shape (read_last l.checkpoints)) rows))) is
       (subst (λ o. IsSomeAnd o (λ (p : PutTransform). IsSomeAnd (life id (read past)) (λ l. AllByRecursion (IsRowOf p.config.shape (read_last l.checkpoints)) rows))) (put_is past indices docs ts s id ∙ ap (option_map put_of) there) fit) in
-      may_page_now docs t l sum n rows m (are_rows t.config.shape (read_last l.checkpoints) rows (built_form t.config (form_is past indices docs ts s id t there).form).shape_built here))
+      may_page_now docs t l sum n rows m (are_rows t.config.shape (read_last l.checkpoints) rows (form_of t.config (form_is past indices docs ts s id t there).form).pivot here))
       may
-
-  -- what the transforms let in, by what is kept
-  lets_same : (index : ℕ) (tree : Tree)
-      → list_all (lets_in (documents (read past)) index (values_in values_of (slice_get (catalogue past) index) tree)) (transforms past) ≡ list_all (lets_in docs index (values_in values_of (slice_get indices index) tree)) (map put_of ts)
-  lets_same index tree = λ i. list_all (lets_in (s.docs_are i) index (values_in values_of (slice_get (s.indices_are i) index) tree)) (s.transforms_are i)
 
   pub passes : (k : Kind) → may_do indices docs ts moment k ≡ true → Passes k
   unfolding reading
   passes (kind.Index name shards mapping stamp quick) e =
       record { fits = index_may past indices docs ts s (record { name = name; shards = shards; mapping = mapping; stamp = stamp; quick = quick }) e; allowed = tt; built_form = refl }
-  passes (kind.Write index shard seq id tree) e =
-      let may = document_may docs (map put_of ts) moment index shard seq id tree (slice_get indices index) e in
-      record {
-        fits = subst (λ (p : List SourceIndex × List Doc). IsSomeAnd (slice_get p.0 index) (λ i. MayWrite reading p.1 moment i index shard seq id tree)) (λ i. (sym s.indices_are i, sym s.docs_are i)) may.0;
-        allowed = tt;
-        built_form = lets_same index tree ∙ may.1;
-      }
+  passes (kind.Write index shard seq id tree) e = record {
+    fits = subst (λ (p : List SourceIndex × List Doc). IsSomeAnd (slice_get p.0 index) (λ i. MayWrite reading p.1 moment i index shard seq id tree)) (λ i. (sym s.indices_are i, sym s.docs_are i))
+        (document_may docs moment index shard seq id tree (slice_get indices index) e);
+    allowed = tt;
+    built_form = refl;
+  }
   passes (kind.Put id config) e = let m = transform_may past indices docs ts s id config e in record { fits = m.0; allowed = m.1; built_form = m.2 }
   passes (kind.Start id) e = record { fits = tt; allowed = from_test id may_start (λ l. legality.may_start l ≡ true) (λ t l there is sum pass. sym (start_is docs t l sum) ∙ pass) e; built_form = refl }
   passes (kind.Stopped id) e = record { fits = tt; allowed = from_test id may_stop (λ l. legality.may_stop l.state l ≡ true) (λ t l there is sum pass. sym (stop_is docs t l sum) ∙ pass) e; built_form = refl }
@@ -199,16 +185,20 @@ module _ (past : List Entry) (indices : List SourceIndex) (docs : List Doc) (ts 
   passes (kind.Reset id) e = absurd (let z : false ≡ true = e in cc)
   passes (kind.StopAsked id wait) e = absurd (let z : false ≡ true = e in cc)
   passes (kind.Schedule id) e = absurd (let z : false ≡ true = e in cc)
-  passes (kind.Fail id n key name value) e = absurd (let z : false ≡ true = e in cc)
+  passes (kind.Fail id n key name value) e = record {
+    fits = tt;
+    allowed = from_test id (λ t. may_finish t n && is_told key name value (failure t docs)) (λ l. MayFail l n key name value)
+        (λ t l there is sum pass. fail_ok past indices docs ts s id t l there is sum n key name value pass) e;
+    built_form = refl;
+  }
 
   pub does : (k : Kind) → Passes k → may_do indices docs ts moment k ≡ true
   unfolding reading
   does (kind.Index name shards mapping stamp quick) p = may_index past indices docs ts s (record { name = name; shards = shards; mapping = mapping; stamp = stamp; quick = quick }) p.fits
   does (kind.Write index shard seq id tree) p =
-      may_document docs (map put_of ts) moment index shard seq id tree (slice_get indices index)
+      may_document docs moment index shard seq id tree (slice_get indices index)
       (subst (λ (q : List SourceIndex × List Doc). IsSomeAnd (slice_get q.0 index) (λ i. MayWrite reading q.1 moment i index shard seq id tree)) (λ i. (s.indices_are i, s.docs_are i)) p.fits)
-      (sym (lets_same index tree) ∙ p.built_form)
-  does (kind.Put id config) p = may_transform past indices docs ts s id config p.fits p.built_form
+  does (kind.Put id config) p = may_transform past indices docs ts s id config p.fits p.allowed p.built_form
   does (kind.Start id) p = to_test id may_start (λ l. legality.may_start l ≡ true) (λ t l there is sum m. start_is docs t l sum ∙ m) p.allowed
   does (kind.Stopped id) p = to_test id may_stop (λ l. legality.may_stop l.state l ≡ true) (λ t l there is sum m. stop_is docs t l sum ∙ m) p.allowed
   does (kind.Begin id n bound) p =
@@ -219,7 +209,8 @@ module _ (past : List Entry) (indices : List SourceIndex) (docs : List Doc) (ts 
   does (kind.Reset id) p = absurd (let z : false ≡ true = p.built_form in cc)
   does (kind.StopAsked id wait) p = absurd (let z : false ≡ true = p.built_form in cc)
   does (kind.Schedule id) p = absurd (let z : false ≡ true = p.built_form in cc)
-  does (kind.Fail id n key name value) p = absurd (let z : false ≡ true = p.built_form in cc)
+  does (kind.Fail id n key name value) p =
+      to_test id (λ t. may_finish t n && is_told key name value (failure t docs)) (λ l. MayFail l n key name value) (λ t l there is sum m. ok_fail past indices docs ts s id t l there is sum n key name value m) p.allowed
 
   pub taken_is : (e : Entry) → e.at_ms ≡ moment → (is_timely (last_ms_in past) e.at_ms e.actor && may_do indices docs ts e.at_ms e.kind) ≡ true → IsTaken past e
   unfolding reading
@@ -257,26 +248,24 @@ taken_exactly past indices docs ts e s = (taken_is past indices docs ts s e.at_m
 -- the configuration and the documents of a transform that is there are in range
 module _ (past : List Entry) (indices : List SourceIndex) (docs : List Doc) (ts : List Transform) (s : Stands past indices docs ts) where
   pub have_shards : AllByRecursion HasShard indices
-  have_shards = (built past indices docs ts s).each_index
+  have_shards = all_weaken IsBuiltIndex HasShard (λ i is. is.some_shard) indices (built past indices docs ts s).each_index
+
+  pub named_once : AreNamedOnce indices
+  named_once = (built past indices docs ts s).named_once
 
   module _ (id : List ℕ) (t : Transform) (there : transform_at id ts ≡ Some t) where
-    there_is : IsBuiltPut indices docs (put_of t)
+    there_is : IsBuiltPut indices (put_of t)
     there_is = form_is past indices docs ts s id t there
 
     pub config_in_range : IsInRange t.config
-    config_in_range = in_range t.config (built_form t.config there_is.form)
-
-    readable : AllByRecursion (IsReadable t.config.shape) (read_by t docs)
-    readable = read_are_readable t.config.shape t.sources t.read docs there_is.reads
+    config_in_range = put_in_range indices (put_of t) there_is
 
     pub docs_fit : AllFit t.config (read_by t docs)
-    docs_fit = all_fit t.config (built_form t.config there_is.form) (read_by t docs) readable
+    docs_fit = reads_fit indices docs (map put_of ts) (built past indices docs ts s) (put_of t) there_is t.read
 
-    pub few_read : length (read_by t docs) ≤ 500
-    few_read = read_are_few t.config.shape t.sources t.read docs there_is.reads
-
-    pub no_wide_sum : (k : Key) → sum_range t.config k (counted t.config None (read_by t docs)) ≡ None
-    no_wide_sum k = no_range t.config (built_form t.config there_is.form) (read_by t docs) readable k few_read
+    -- what is known of the texts of documents is known of the values that the transform reads
+    pub docs_have : (P : List ℕ → Type 0) → AllByRecursion (HasTexts P) docs → AllByRecursion (HasValues P) (read_by t docs)
+    docs_have P known = reads_have indices docs (map put_of ts) (built past indices docs ts s) (put_of t) there_is P t.read known
 
 -- the same by the answers of the tests
 pub taken_by : (history : List Entry) (indices : List SourceIndex) (docs : List Doc) (ts : List Transform) (e : Entry) (is_time may : Bool) → Stands (reverse history) indices docs ts

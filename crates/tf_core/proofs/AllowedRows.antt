@@ -23,7 +23,7 @@ use Rattle.tf_history.specs.Meaning.{row_key}
 use Rattle.tf_history.proofs.Keys.{IsAscending, IsBelowAll, sorted, below_trans}
 use Rattle.tf_core.specs.declared.transform.Transform.{Transform}
 use Rattle.tf_core.specs.Allowing.{ascends, is_part, is_row_value, is_row_of, is_running, may_page, may_finish}
-use Rattle.tf_core.specs.Built.{is_built_shape}
+use Rattle.tf_model.specs.Scratch.{is_pivot}
 use Rattle.tf_core.specs.Summary.{IsSummary}
 use Rattle.tf_core.proofs.Truths.{both, int_at_most, at_most_int, nat_at_most, at_most_nat, same_nat, nat_same}
 
@@ -116,7 +116,7 @@ row_is (shape.Pivot groups aggs) docs (row.Latest k index shard seq) e = absurd 
 row_is (shape.Latest keys sort) docs (row.Pivot k values) e = absurd (let z : false ≡ true = e in cc)
 row_is (shape.Latest keys sort) docs (row.Latest k index shard seq) e = absurd (let z : false ≡ true = e in cc)
 
-is_row : (s : Shape) (docs : List Doc) (r : Row) → is_built_shape s ≡ true → IsRowOf s docs r → is_row_of s r ≡ true
+is_row : (s : Shape) (docs : List Doc) (r : Row) → is_pivot s ≡ true → IsRowOf s docs r → is_row_of s r ≡ true
 is_row (shape.Pivot groups aggs) docs (row.Pivot k values) built h =
     both_true (nat_same _ _ h.parts) (both_true (is_all is_part IsPart k.parts is_part_of h.part_dates) (both_true (nat_same _ _ h.values_are) (is_all is_row_value IsRowValue values is_value h.fits)))
 is_row (shape.Pivot groups aggs) docs (row.Latest k index shard seq) built h = absurd h
@@ -125,7 +125,7 @@ is_row (shape.Latest keys sort) docs r built h = absurd (let z : false ≡ true 
 pub rows_are : (s : Shape) (docs : List Doc) (rows : List Row) → list_all (is_row_of s) rows ≡ true → AllByRecursion (IsRowOf s docs) rows
 rows_are s docs rows e = all_is (is_row_of s) (IsRowOf s docs) rows (row_is s docs) e
 
-pub are_rows : (s : Shape) (docs : List Doc) (rows : List Row) → is_built_shape s ≡ true → AllByRecursion (IsRowOf s docs) rows → list_all (is_row_of s) rows ≡ true
+pub are_rows : (s : Shape) (docs : List Doc) (rows : List Row) → is_pivot s ≡ true → AllByRecursion (IsRowOf s docs) rows → list_all (is_row_of s) rows ≡ true
 are_rows s docs rows built h = is_all (is_row_of s) (IsRowOf s docs) rows (λ r. is_row s docs r built) h
 
 -- ---- pages and finishes
@@ -167,8 +167,8 @@ module _ (docs : List Doc) (t : Transform) (l : Life) (s : IsSummary docs t l) (
   pub finish_may : may_finish t n ≡ true → to_do l ≡ [] → MayFinish l n
   finish_may e none = let parts = both _ _ e in record { running = running_is parts.0; active = ap is_active (sym s.state) ∙ parts.1; nothing_left = none }
 
-  pub may_finish_now : MayFinish l n → may_finish t n ≡ true
-  may_finish_now m = both_true (is_running_now m.running) (ap is_active s.state ∙ m.active)
+  pub running_may : IsRunning l n → is_active l.state ≡ true → may_finish t n ≡ true
+  running_may r active = both_true (is_running_now r) (ap is_active s.state ∙ active)
 
   pub running_of : may_finish t n ≡ true → IsRunning l n
   running_of e = running_is (both _ _ e).0

@@ -1,32 +1,34 @@
 -- What may be done to a transform.
-use Rattle.std.proofs.Common.{◌≡◌, ℕ, Bool, true, false, ◌&&◌, not, List, [], ◌∷◌, length, map, Option, Some, None, refl, sym, ap, subst, ◌∙◌, arith}
+use Rattle.std.proofs.Common.{◌≡◌, ℕ, ◌<◌, Bool, true, false, ◌&&◌, not, List, [], ◌∷◌, length, map, Option, Some, None, refl, sym, ap, subst, ◌∙◌, arith, ltb-true, lt-ltb}
 use Rattle.std.specs.Prelude.{ℤ, ◌||◌, nat_lt, IsSomeAnd, is_none, if◌then◌else◌, option_map}
 use Rattle.std.specs.List.{AllByRecursion, find}
 use Rattle.std.specs.Cmp.Derive.{both_true}
+use Rattle.std.proofs.lemmas.List.{length-map}
 use Rattle.std.proofs.lemmas.Option.{same_Some}
 use Rattle.tf_model.specs.declared.config.Config.{Config}
 use Rattle.tf_model.specs.declared.doc.Doc.{Doc}
 use Rattle.tf_model.specs.declared.entry.Entry.{Entry}
-use Rattle.tf_model.specs.declared.entry.Kind.TheVariants as kind
 use Rattle.tf_model.specs.declared.task.State.{State}
 use Rattle.tf_model.specs.declared.task.State.TheVariants as state
 use Rattle.tf_model.specs.Bounds.{risen}
-use Rattle.tf_history.specs.Catalogue.{SourceIndex, catalogue, source_numbers}
+use Rattle.tf_history.specs.Catalogue.{SourceIndex, catalogue}
 use Rattle.tf_history.specs.Legality as legality
 use Rattle.tf_history.specs.Legality.{MayBegin, is_started, is_stopped}
 use Rattle.tf_history.specs.LegalEntries.{MayPut}
-use Rattle.tf_history.specs.Lives.{Life, Checkpoint, documents, life, is_same, last_bound}
+use Rattle.tf_history.specs.Lives.{Life, Checkpoint, life, is_same, last_bound}
 use Rattle.tf_history.specs.Transforms.{PutTransform, transforms, transform_of}
 use Rattle.tf_core.specs.declared.transform.Transform.{Transform}
-use Rattle.tf_core.specs.Allowing.{is_well_formed, takes_transform, is_over, may_start, may_stop, may_stop_in, may_begin, test_at}
-use Rattle.tf_core.specs.Built.{are_readable, fits_indices, is_built, is_built_config, is_empty}
+use Rattle.tf_config.specs.Refusals.{passes}
+use Rattle.tf_core.specs.Allowing.{has_names, takes_transform, is_over, may_start, may_stop, may_stop_in, may_begin, test_at}
+use Rattle.tf_core.specs.Built.{is_built_config}
 use Rattle.tf_core.specs.BuiltPast.{IsBuiltPut}
 use Rattle.tf_core.specs.Legal.{reading, read}
 use Rattle.tf_core.specs.Standing.{Stands}
+use Rattle.tf_core.specs.Sources.{catalogued}
 use Rattle.tf_core.specs.Summary.{IsSummary, put_of}
 use Rattle.tf_core.specs.Table.{Tells, transform_at}
 use Rattle.tf_core.proofs.Allowed.{built, free_is}
-use Rattle.tf_core.proofs.Truths.{both, none_of, no_items, nat_same, same_nat}
+use Rattle.tf_core.proofs.Truths.{both, none_of, nat_same, same_nat}
 
 -- ---- lives and transforms
 pub no_life : (docs : List Doc) (l : Option Life) → Tells docs None l → l ≡ None
@@ -124,39 +126,44 @@ module _ (docs : List Doc) (t : Transform) (l : Life) (s : IsSummary docs t l) w
 
 -- ---- putting
 module _ (past : List Entry) (indices : List SourceIndex) (docs : List Doc) (ts : List Transform) (s : Stands past indices docs ts) where
-  pub transform_may : (id : List ℕ) (config : Config) → takes_transform indices docs ts id config ≡ true → MayPut reading past id config × (life id (read past) ≡ None) × (is_built past (kind.Put id config) ≡ true)
+  count_is : length (transforms past) ≡ length ts
+  count_is = ap length s.transforms_are ∙ length-map ts put_of
+
+  checks_are : (config : Config) → passes (catalogued (catalogue past)) config ≡ passes (catalogued indices) config
+  checks_are config = ap (λ is. passes (catalogued is) config) s.indices_are
+
+  pub transform_may : (id : List ℕ) (config : Config) → takes_transform indices ts id config ≡ true → MayPut reading past id config × (life id (read past) ≡ None) × (is_built_config config ≡ true)
   unfolding reading
   transform_may id config e =
-      let parts = both (is_well_formed indices ts id config) (are_readable config.shape (source_numbers indices config.sources) docs) e in
+      let parts = both (has_names indices ts id config.dest) (is_built_config config && passes (catalogued indices) config) e in
+      let checks = both (is_built_config config) (passes (catalogued indices) config) parts.1 in
       let a = both _ _ parts.0 in
       let b = both _ _ a.1 in
       let c = both _ _ b.1 in
-      let d = both _ _ c.1 in
-      let empty : ts ≡ [] = no_items ts d.1 in
-      let none : transforms past ≡ [] = s.transforms_are ∙ ap (map put_of) empty in (
+      let below : length ts < 64 = ltb-true _ _ c.0 in (
         record {
           well_formed = a.0;
-          few = let zero_puts : length (transforms past) ≡ 0 = ap length none in omega arith;
-          checked = both_true b.0 (ap (fits_indices config) s.indices_are ∙ c.0);
-          dest_free = free_is past indices docs ts s config.dest ∙ d.0;
+          few = subst (λ n. n < 64) (sym count_is) below;
+          checked = checks_are config ∙ checks.1;
+          dest_free = free_is past indices docs ts s config.dest ∙ c.1;
         },
-        no_life docs (life id (read past)) (subst (λ us. Tells docs (transform_at id us) (life id (read past))) empty (s.lives id)),
-        both_true (ap is_empty none) ((λ i. are_readable config.shape (source_numbers (s.indices_are i) config.sources) (s.docs_are i)) ∙ parts.1),
+        no_life docs (life id (read past)) (subst (λ o. Tells docs o (life id (read past))) (none_of (transform_at id ts) b.0) (s.lives id)),
+        checks.0,
       )
 
-  no_puts : (ts : List Transform) → is_empty (map put_of ts) ≡ true → is_empty ts ≡ true
-  no_puts [] e = refl
-  no_puts (t ∷ ts) e = e
+  not_there : (id : List ℕ) → life id (read past) ≡ None → is_none (transform_at id ts) ≡ true
+  not_there id none = by (transform_at id ts) (subst (Tells docs (transform_at id ts)) none (s.lives id))
+    where
+      by : (o : Option Transform) → Tells docs o None → is_none o ≡ true
+      by None h = refl
+      by (Some t) h = absurd h
 
-  pub may_transform : (id : List ℕ) (config : Config) → MayPut reading past id config → is_built past (kind.Put id config) ≡ true → takes_transform indices docs ts id config ≡ true
+  pub may_transform : (id : List ℕ) (config : Config) → MayPut reading past id config → life id (read past) ≡ None → is_built_config config ≡ true → takes_transform indices ts id config ≡ true
   unfolding reading
-  may_transform id config m form =
-      let checked = both (is_built_config config) (fits_indices config (catalogue past)) m.checked in
-      let asked = both (is_empty (transforms past)) (are_readable config.shape (source_numbers (catalogue past) config.sources) (documents (read past))) form in
+  may_transform id config m none form =
       both_true
-      (both_true m.well_formed (both_true checked.0 (both_true (ap (fits_indices config) (sym s.indices_are) ∙ checked.1) (both_true (sym (free_is past indices docs ts s config.dest) ∙ m.dest_free)
-      (no_puts ts (ap is_empty (sym s.transforms_are) ∙ asked.0))))))
-      ((λ i. are_readable config.shape (source_numbers (sym s.indices_are i) config.sources) (sym s.docs_are i)) ∙ asked.1)
+      (both_true m.well_formed (both_true (not_there id none) (both_true (lt-ltb _ _ (subst (λ n. n < 64) count_is m.few)) (sym (free_is past indices docs ts s config.dest) ∙ m.dest_free))))
+      (both_true form (sym (checks_are config) ∙ m.checked))
 
   -- ---- the transform that is there
   found_put : (id : List ℕ) (ts : List Transform) → find (λ (p : PutTransform). is_same id p.id) (map put_of ts) ≡ option_map put_of (transform_at id ts)
@@ -180,5 +187,9 @@ module _ (past : List Entry) (indices : List SourceIndex) (docs : List Doc) (ts 
       by false same f rest = rest f
 
   -- a transform that is there is a batch pivot over indices that are there
-  pub form_is : (id : List ℕ) (t : Transform) → transform_at id ts ≡ Some t → IsBuiltPut indices docs (put_of t)
-  form_is id t e = all_found (IsBuiltPut indices docs) id t ts (built past indices docs ts s).each_put e
+  pub form_is : (id : List ℕ) (t : Transform) → transform_at id ts ≡ Some t → IsBuiltPut indices (put_of t)
+  form_is id t e = all_found (IsBuiltPut indices) id t ts (built past indices docs ts s).each_put e
+
+  -- what is known of each transform as it was put
+  pub known_of : (P : PutTransform → Type 0) (id : List ℕ) (t : Transform) → transform_at id ts ≡ Some t → AllByRecursion P (transforms past) → P (put_of t)
+  known_of P id t e all = all_found P id t ts (subst (AllByRecursion P) s.transforms_are all) e

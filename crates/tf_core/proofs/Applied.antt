@@ -129,9 +129,6 @@ module _ (entries : Vec Kept) (indices : Vec SourceIndex) (docs : Vec (Arc Doc G
   there : IsThere p.step ts.items
   there = step_there (past_in entries.items) (entry_of p.kept) indices.items (shared docs.items) ts.items stands ready.taken.0 p.step ready.chain.0
 
-  pub has_space : vec_len entries < vec_capacity entries
-  has_space = omega (arith, ready.room.entries)
-
   can_change : (by : Change) (t : Transform) → vec_len t.rows + more_rows by ≤ vec_capacity t.rows → CanChange by t
   can_change change.Start t h = tt
   can_change (change.AskStop wait) t h = tt

@@ -12,9 +12,10 @@ use Rattle.tf_mapping.specs.Documents as Documents
 use Rattle.tf_mapping.specs.Documents.{reads}
 use Rattle.tf_mapping.specs.Routes.{hash_of, shard_of}
 use Rattle.tf_mapping.specs.Written.{is_written}
+use Rattle.std.specs.List.Sorted.{IsStrictlySortedBy}
 
 index_taken : IsTaken [] example_index
-unfolding reading is_index_name
+unfolding reading is_index_name IsStrictlySortedBy
 index_taken = record {
   legal = record {
     moment = (omega (arith, ints), omega (arith, ints));
@@ -27,6 +28,7 @@ index_taken = record {
       shards = (omega arith, omega arith);
       fields = omega arith;
       field_names = refl;
+      ascending = tt;
       stamp = tt;
       slow = refl;
     };

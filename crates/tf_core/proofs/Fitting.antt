@@ -1,204 +1,203 @@
--- The documents of a transform fit it, so each key of its checkpoint has a row.
-use Rattle.std.proofs.Common.{◌≡◌, ℕ, zero, suc, ◌≤◌, ◌^◌, Bool, true, false, ◌&&◌, not, List, [], ◌∷◌, length, filter, take, Option, Some, None, refl, sym, ap, subst, ◌∙◌, arith}
-use Rattle.std.specs.Prelude.{ℤ, pos, negsuc, ◌≤ℤ◌, ◌==◌, ◌||◌, nat_le, count_by, if◌then◌else◌, All, IfSome, is_none}
-use Rattle.std.specs.Ordering.{int_eq}
-use Rattle.std.specs.Option.{option_map, option_and_then}
-use Rattle.std.specs.List.{AllByRecursion, list_all}
+-- The documents of a transform fit its configuration, and what is known of their values.
+use Rattle.std.proofs.Common.{◌≡◌, ℕ, zero, suc, Bool, true, false, ◌&&◌, List, [], ◌∷◌, filter, take, Option, Some, None, refl, sym, ap, subst, ◌∙◌}
+use Rattle.std.specs.Prelude.{ℤ, ◌||◌, nat_eq, slice_get, if◌then◌else◌, IsSomeAnd, is_none, option_map}
+use Rattle.std.specs.List.{AllByRecursion, list_any, cons_option}
+use Rattle.std.specs.Str.{bytes_eq}
 use Rattle.std.proofs.lemmas.List.Elements.{All-from_recursion}
-use Rattle.std.proofs.lemmas.Int.{ints}
-use Rattle.std.proofs.lemmas.List.Sums.{length-filter}
+use Rattle.std.proofs.lemmas.Option.{same_Some}
 use Rattle.tf_model.specs.declared.doc.Doc.{Doc}
-use Rattle.tf_model.specs.declared.config.Agg.{Agg}
-use Rattle.tf_model.specs.declared.config.AggKind.{AggKind}
-use Rattle.tf_model.specs.declared.config.AggKind.TheVariants.{Sum, Min, Max, ValueCount}
 use Rattle.tf_model.specs.declared.config.Config.{Config}
-use Rattle.tf_model.specs.declared.config.Group.{Group}
-use Rattle.tf_model.specs.declared.config.GroupKind.{GroupKind}
-use Rattle.tf_model.specs.declared.config.GroupKind.TheVariants.{Terms, Histogram, DateHistogram}
-use Rattle.tf_model.specs.declared.config.Retention.{Retention}
-use Rattle.tf_model.specs.declared.config.Shape.{Shape}
-use Rattle.tf_model.specs.declared.config.Shape.TheVariants.{Pivot, Latest}
-use Rattle.tf_model.specs.declared.config.SyncTime.{SyncTime}
-use Rattle.tf_model.specs.declared.value.Key.{Key}
+use Rattle.tf_model.specs.declared.query.FieldType.{FieldType}
+use Rattle.tf_model.specs.declared.query.FieldType.TheVariants.{Keyword, Long, Boolean, Date}
+use Rattle.tf_model.specs.declared.query.Mapping.{Mapping}
 use Rattle.tf_model.specs.declared.value.Value.{Value}
 use Rattle.tf_model.specs.declared.value.Value.TheVariants as value
-use Rattle.tf_model.specs.Conditions.{IsNumber, FitsGroup, FitsAgg, IsGroupInRange, IsInRange, IsMoment, IsSpan, IsBetween, Fits, AllFit}
-use Rattle.tf_model.specs.Counted.{counts, counted}
-use Rattle.tf_model.specs.Keys.{groups_of, has_key}
-use Rattle.tf_model.specs.Names.{is_index_name}
-use Rattle.tf_model.specs.Rows.{aggs_of, sum_range, with_key, first_wide, or_else, sum_range_at, field_values, total}
-use Rattle.tf_model.specs.Values.{value_of, value_at}
-use Rattle.tf_core.specs.Built.{are_readable, has_defaults, has_one, have_small, have_texts, is_among, is_built_config, is_built_shape, is_empty, is_match_all, is_readable, is_readable_in, is_small, is_sum, is_terms, is_text}
-use Rattle.tf_core.proofs.Sums.{HasSmall, IsSmallNumber, small_number, total_bound, all_filter, few_filter, in_i64}
-use Rattle.tf_core.proofs.Truths.{both, nat_at_most, none_of, not_true, same_nat}
-
--- ---- the form of a configuration
-terms_is : (k : GroupKind) → is_terms k ≡ true → k ≡ Terms
-terms_is Terms e = refl
-terms_is (Histogram interval) e = absurd (let z : false ≡ true = e in cc)
-terms_is (DateHistogram ms) e = absurd (let z : false ≡ true = e in cc)
-
-sum_is : (k : AggKind) → is_sum k ≡ true → k ≡ Sum
-sum_is Sum e = refl
-sum_is Min e = absurd (let z : false ≡ true = e in cc)
-sum_is Max e = absurd (let z : false ≡ true = e in cc)
-sum_is ValueCount e = absurd (let z : false ≡ true = e in cc)
-
--- a pivot by the terms of one field, with one sum
-pub record IsOnePivot (s : Shape) : Type 0 where
-  pub group : Group
-  pub agg : Agg
-  pub shape : s ≡ Pivot (group ∷ []) (agg ∷ [])
-  pub terms : group.kind ≡ Terms
-  pub whole : group.missing_bucket ≡ false
-  pub sum : agg.kind ≡ Sum
-
-pub one_pivot : (s : Shape) → is_built_shape s ≡ true → IsOnePivot s
-one_pivot (Latest keys sort) e = absurd (let z : false ≡ true = e in cc)
-one_pivot (Pivot [] aggs) e = absurd (let z : false ≡ true = e in cc)
-one_pivot (Pivot (g ∷ h ∷ groups) aggs) e = absurd (let z : false ≡ true = e in cc)
-one_pivot (Pivot (g ∷ []) []) e = absurd (let z : false ≡ true = e in cc)
-one_pivot (Pivot (g ∷ []) (a ∷ b ∷ aggs)) e = absurd (let z : false ≡ true = e in cc)
-one_pivot (Pivot (g ∷ []) (a ∷ [])) e =
-    let p = both _ _ e in
-    let q = both _ _ p.1 in
-    let r = both _ _ q.1 in
-    record { group = g; agg = a; shape = refl; terms = terms_is g.kind p.0; whole = not_true g.missing_bucket q.0; sum = sum_is a.kind r.0 }
-
--- what the form of a configuration says
-pub record IsBuiltForm (c : Config) : Type 0 where
-  pub shape_built : is_built_shape c.shape ≡ true
-  pub pivot : IsOnePivot c.shape
-  pub batch : c.sync ≡ None
-  pub forever : c.retention ≡ None
-  pub frequency : c.frequency_ms ≡ pos 60000
-  pub page_size : c.page_size ≡ 500
-
-same_int : (a b : ℤ) → int_eq a b ≡ true → a ≡ b
-same_int a b e = grind (arith, ints)
-
-pub built_form : (c : Config) → is_built_config c ≡ true → IsBuiltForm c
-built_form c e =
-    let shape_on = is_built_shape c.shape && (is_none c.sync && (is_none c.retention && has_defaults c)) in
-    let source = both (has_one c.sources) (is_match_all c.query && (is_index_name c.dest && shape_on)) e in
-    let query = both (is_match_all c.query) (is_index_name c.dest && shape_on) source.1 in
-    let dest = both (is_index_name c.dest) shape_on query.1 in
-    let shape = both (is_built_shape c.shape) (is_none c.sync && (is_none c.retention && has_defaults c)) dest.1 in
-    let sync = both (is_none c.sync) (is_none c.retention && has_defaults c) shape.1 in
-    let retention = both (is_none c.retention) (has_defaults c) sync.1 in
-    let settings = c.page_size == 500 && (c.align && (not c.epoch_millis && is_empty c.description)) in
-    let frequency = both (int_eq c.frequency_ms (pos 60000)) settings retention.1 in
-    let size = both (c.page_size == 500) (c.align && (not c.epoch_millis && is_empty c.description)) frequency.1 in
-    record {
-      shape_built = shape.0;
-      pivot = one_pivot c.shape shape.0;
-      batch = none_of c.sync sync.0;
-      forever = none_of c.retention retention.0;
-      frequency = same_int c.frequency_ms (pos 60000) frequency.0;
-      page_size = same_nat c.page_size 500 size.0;
-    }
-
-pub in_range : (c : Config) → IsBuiltForm c → IsInRange c
-in_range c f = record {
-  groups = subst (λ s. All (λ group. IsGroupInRange group.kind) (groups_of s)) (sym f.pivot.shape)
-      (All-from_recursion (λ (group : Group). IsGroupInRange group.kind) (f.pivot.group ∷ []) (subst IsGroupInRange (sym f.pivot.terms) tt, tt));
-  delay = subst (λ o. IfSome o (λ (sync : SyncTime). IsSpan sync.delay_ms)) (sym f.batch) tt;
-  max_age = subst (λ o. IfSome o (λ (retention : Retention). IsSpan retention.max_age_ms)) (sym f.forever) tt;
-  frequency = subst (λ n. IsBetween (pos 1000) (pos 3600000) n) (sym f.frequency) (omega (arith, ints), omega (arith, ints));
-  page_size = let size = f.page_size in (omega arith, omega arith);
-}
-
--- ---- documents
-number_fits : (o : Option Value) → IsSmallNumber o → IsNumber o
-number_fits o small = subst IsNumber (sym small.1) (wider small.0 small.2.0 small.2.1)
-  where
-    wider : (n : ℤ) → negsuc 999999999 ≤ℤ n → n ≤ℤ pos 1000000000 → IsNumber (Some (value.Int n))
-    wider n low high = (omega (arith, ints, low), omega (arith, ints, high))
-
-fits_doc : (c : Config) (f : IsBuiltForm c) (d : Doc) → HasSmall f.pivot.agg.field d → Fits c d
-fits_doc c f d small = record {
-  groups = subst (λ s. All (λ group. FitsGroup group.kind (value_of d group.field)) (groups_of s)) (sym f.pivot.shape)
-      (All-from_recursion (λ (group : Group). FitsGroup group.kind (value_of d group.field)) (f.pivot.group ∷ []) (subst (λ k. FitsGroup k (value_of d f.pivot.group.field)) (sym f.pivot.terms) tt, tt));
-  aggs = subst (λ s. All (λ agg. FitsAgg agg.kind (value_of d agg.field)) (aggs_of s)) (sym f.pivot.shape)
-      (All-from_recursion (λ (agg : Agg). FitsAgg agg.kind (value_of d agg.field)) (f.pivot.agg ∷ []) (subst (λ k. FitsAgg k (value_of d f.pivot.agg.field)) (sym f.pivot.sum) (number_fits (value_of d f.pivot.agg.field) small), tt));
-  sync = subst (λ o. IsMoment (option_and_then (λ (s : SyncTime). value_of d s.field) o)) (sym f.batch) tt;
-}
-
-all_map : (P Q : Doc → Type 0) → ((d : Doc) → P d → Q d) → (docs : List Doc) → AllByRecursion P docs → AllByRecursion Q docs
-all_map P Q f [] all = tt
-all_map P Q f (d ∷ docs) all = (f d all.0, all_map P Q f docs all.1)
+use Rattle.tf_model.specs.Conditions.{AllFit, Fits, IsInRange}
+use Rattle.tf_model.specs.Scratch.{is_pivot}
+use Rattle.tf_model.specs.Values.{type_of, value_at, value_of}
+use Rattle.tf_config.specs.Catalogue.{mapping_named}
+use Rattle.tf_config.proofs.ClearLaws.{passing_is_in_range}
+use Rattle.tf_config.proofs.TypeLaws.{passing_fits}
+use Rattle.tf_history.specs.Catalogue.{SourceIndex, number_of, source_numbers}
+use Rattle.tf_history.specs.Transforms.{PutTransform}
+use Rattle.tf_mapping.specs.Documents.{AreValues, FitsField, FitsType, values_of}
+use Rattle.tf_mapping.specs.Least.{is_one_of}
+use Rattle.tf_mapping.proofs.FitLaws.{values_are}
+use Rattle.tf_time.specs.Dates.{is_date}
+use Rattle.tf_core.specs.Built.{is_built_config}
+use Rattle.tf_core.specs.BuiltPast.{IsBuiltDoc, IsBuiltIndex, IsBuiltPast, IsBuiltPut}
+use Rattle.tf_core.specs.Sources.{catalogued, is_among}
+use Rattle.tf_core.specs.Texts.{HasTexts, HasValues, IsValueOf}
+use Rattle.tf_core.proofs.Numbers.{position_cons}
+use Rattle.tf_core.proofs.Sums.{all_filter}
+use Rattle.tf_core.proofs.Tables.{same_itself}
+use Rattle.tf_core.proofs.Truths.{both, int_at_most, none_of, same_nat}
 
 pub all_take : (P : Doc → Type 0) (n : ℕ) (docs : List Doc) → AllByRecursion P docs → AllByRecursion P (take n docs)
 all_take P zero docs all = tt
 all_take P (suc n) [] all = tt
 all_take P (suc n) (d ∷ docs) all = (all.0, all_take P n docs all.1)
 
--- a document that the transform can read
-abbrev pub IsReadable : Shape → Doc → Type 0
-IsReadable shape d = is_readable shape d.values ≡ true
+-- ---- the form of a configuration
+pub record IsForm (c : Config) : Type 0 where
+  pub pivot : is_pivot c.shape ≡ true
+  pub batch : c.sync ≡ None
+  pub forever : c.retention ≡ None
 
-small_doc : (c : Config) (f : IsBuiltForm c) (d : Doc) → IsReadable c.shape d → HasSmall f.pivot.agg.field d
-unfolding value_of
-small_doc c f d readable =
-    let sums = both (have_texts c.shape d.values) (have_small c.shape d.values) readable in
-    let small : have_small (Pivot (f.pivot.group ∷ []) (f.pivot.agg ∷ [])) d.values ≡ true = ap (λ s. have_small s d.values) (sym f.pivot.shape) ∙ sums.1 in
-    small_number (value_at d.values f.pivot.agg.field) (both (is_small (value_at d.values f.pivot.agg.field)) true small).0
+pub form_of : (c : Config) → is_built_config c ≡ true → IsForm c
+form_of c e =
+    let a = both (is_pivot c.shape) (is_none c.sync && is_none c.retention) e in
+    let b = both (is_none c.sync) (is_none c.retention) a.1 in
+    record { pivot = a.0; batch = none_of c.sync b.0; forever = none_of c.retention b.1 }
 
-pub text_doc : (c : Config) (f : IsBuiltForm c) (d : Doc) → IsReadable c.shape d → is_text (value_of d f.pivot.group.field) ≡ true
-unfolding value_of
-text_doc c f d readable =
-    let texts = both (have_texts c.shape d.values) (have_small c.shape d.values) readable in
-    let text : have_texts (Pivot (f.pivot.group ∷ []) (f.pivot.agg ∷ [])) d.values ≡ true = ap (λ s. have_texts s d.values) (sym f.pivot.shape) ∙ texts.0 in
-    (both (is_text (value_at d.values f.pivot.group.field)) true text).0
+pub put_in_range : (indices : List SourceIndex) (p : PutTransform) → IsBuiltPut indices p → IsInRange p.config
+put_in_range indices p b = passing_is_in_range (catalogued indices) p.config b.checked
 
--- ---- the documents of a transform's sources
-readable_first : (shape : Shape) (sources : List ℕ) (n : ℕ) (docs : List Doc) → list_all (is_readable_in shape sources) docs ≡ true → AllByRecursion (IsReadable shape) (filter (is_among sources) (take n docs))
-readable_first shape sources zero docs e = tt
-readable_first shape sources (suc n) [] e = tt
-readable_first shape sources (suc n) (d ∷ docs) e =
-    let parts = both (is_readable_in shape sources d) (list_all (is_readable_in shape sources) docs) e in
-    by (is_among sources d) parts.0 (readable_first shape sources n docs parts.1)
+-- ---- the values of a document
+date_is : (ms : ℤ) → is_date ms ≡ true → IsValueOf (λ u. Unit {0}) (value.Date ms)
+date_is ms e = let parts = both _ _ e in (int_at_most _ _ parts.0, int_at_most _ _ parts.1)
+
+-- a value of a type
+typed : (P : List ℕ → Type 0) (kind : FieldType) (v : Value) → ((u : List ℕ) → v ≡ value.Str u → P u) → FitsType kind v → IsValueOf P v
+typed P Keyword (value.Str u) known h = known u refl
+typed P Keyword value.Null known h = absurd h
+typed P Keyword (value.Bool b) known h = absurd h
+typed P Keyword (value.Int n) known h = absurd h
+typed P Keyword (value.Date ms) known h = absurd h
+typed P Long (value.Int n) known h = let parts = both _ _ h in (int_at_most _ _ parts.0, int_at_most _ _ parts.1)
+typed P Long value.Null known h = absurd h
+typed P Long (value.Bool b) known h = absurd h
+typed P Long (value.Date ms) known h = absurd h
+typed P Long (value.Str u) known h = absurd h
+typed P Boolean (value.Bool b) known h = tt
+typed P Boolean value.Null known h = absurd h
+typed P Boolean (value.Int n) known h = absurd h
+typed P Boolean (value.Date ms) known h = absurd h
+typed P Boolean (value.Str u) known h = absurd h
+typed P Date (value.Date ms) known h = date_is ms h
+typed P Date value.Null known h = absurd h
+typed P Date (value.Bool b) known h = absurd h
+typed P Date (value.Int n) known h = absurd h
+typed P Date (value.Str u) known h = absurd h
+
+by_type : (P : List ℕ → Type 0) (o : Option FieldType) (v : Value) → ((u : List ℕ) → v ≡ value.Str u → P u) → IsSomeAnd o (λ kind. FitsType kind v) → IsValueOf P v
+by_type P None v known h = absurd h
+by_type P (Some kind) v known h = typed P kind v known h
+
+-- a value that is there is one of its field's type
+value_there : (P : List ℕ → Type 0) (mapping : Mapping) (values : List (List ℕ × Value)) (field : List ℕ) (v : Value) → AllByRecursion (FitsField mapping) values
+    → ((u : List ℕ) → v ≡ value.Str u → P u) → value_at values field ≡ Some v → IsValueOf P v
+value_there P mapping [] field v fit known e = absurd (let z : ◌≡◌ {A = Option Value} None (Some v) = e in cc)
+value_there P mapping (x ∷ values) field v fit known e = by (bytes_eq x.0 field) (value_there P mapping values field v fit.1 known) e
   where
-    by : (b : Bool) → (not b || is_readable shape d.values) ≡ true → AllByRecursion (IsReadable shape) (filter (is_among sources) (take n docs))
-        → AllByRecursion (IsReadable shape) (if b then d ∷ filter (is_among sources) (take n docs) else filter (is_among sources) (take n docs))
-    by true readable rest = (readable, rest)
-    by false readable rest = rest
+    by : (b : Bool) → (value_at values field ≡ Some v → IsValueOf P v) → (if b then Some x.1 else value_at values field) ≡ Some v → IsValueOf P v
+    by true rest f =
+        let same : x.1 ≡ v = same_Some x.1 v f in
+        by_type P (type_of mapping x.0) v known (subst (λ w. IsSomeAnd (type_of mapping x.0) (λ kind. FitsType kind w)) same fit.0)
+    by false rest f = rest f
 
--- those that the newest checkpoint reads can be read
-pub read_are_readable : (shape : Shape) (sources : List ℕ) (n : ℕ) (docs : List Doc) → are_readable shape sources docs ≡ true → AllByRecursion (IsReadable shape) (filter (is_among sources) (take n docs))
-read_are_readable shape sources n docs e = readable_first shape sources n docs (both (nat_le (count_by (is_among sources) docs) 500) (list_all (is_readable_in shape sources) docs) e).1
+has_values : (P : List ℕ → Type 0) (mapping : Mapping) (d : Doc) → AreValues mapping d.values → HasTexts P d → HasValues P d
+unfolding value_of
+has_values P mapping d are known field v e = value_there P mapping d.values field v are.fit (λ u is. known field u (e ∙ ap Some is)) e
 
-few_first : (p : Doc → Bool) (n : ℕ) (docs : List Doc) → length (filter p (take n docs)) ≤ length (filter p docs)
-few_first p zero docs = omega arith
-few_first p (suc n) [] = omega arith
-few_first p (suc n) (d ∷ docs) = elim (p d) as (λ b. length (if b then d ∷ filter p (take n docs) else filter p (take n docs)) ≤ length (if b then d ∷ filter p docs else filter p docs)) [
-  | true ↦ let rest = few_first p n docs in omega arith
-  | false ↦ few_first p n docs
-]
+-- ---- the documents of a past
+module _ (indices : List SourceIndex) (each : AllByRecursion IsBuiltIndex indices) where
+  -- a document's values are those of its index
+  abbrev HasMapping : Doc → Type 0
+  HasMapping d = IsSomeAnd (slice_get indices d.index) (λ i. AreValues i.mapping d.values)
 
--- and are at most 500
-pub read_are_few : (shape : Shape) (sources : List ℕ) (n : ℕ) (docs : List Doc) → are_readable shape sources docs ≡ true → length (filter (is_among sources) (take n docs)) ≤ 500
-read_are_few shape sources n docs e =
-    let few : count_by (is_among sources) docs ≤ 500 = nat_at_most _ _ (both (nat_le (count_by (is_among sources) docs) 500) (list_all (is_readable_in shape sources) docs) e).0 in
-    omega (arith, few_first (is_among sources) n docs, length-filter (is_among sources) docs, few)
+  at_index : (indices : List SourceIndex) (n : ℕ) (P Q : SourceIndex → Type 0) → AllByRecursion IsBuiltIndex indices → ((i : SourceIndex) → IsBuiltIndex i → P i → Q i)
+      → IsSomeAnd (slice_get indices n) P → IsSomeAnd (slice_get indices n) Q
+  at_index [] n P Q all f h = absurd h
+  at_index (i ∷ indices) zero P Q all f h = f i all.0 h
+  at_index (i ∷ indices) (suc n) P Q all f h = at_index indices n P Q all.1 f h
 
-module _ (c : Config) (f : IsBuiltForm c) (docs : List Doc) (readable : AllByRecursion (IsReadable c.shape) docs) where
-  all_small : AllByRecursion (HasSmall f.pivot.agg.field) docs
-  all_small = all_map (IsReadable c.shape) (HasSmall f.pivot.agg.field) (λ d here. small_doc c f d here) docs readable
+  has_mapping : (d : Doc) → IsBuiltDoc indices d → HasMapping d
+  has_mapping d b =
+      at_index indices d.index (λ i. d.values ≡ values_of i.mapping i.stamp d.tree) (λ i. AreValues i.mapping d.values) each
+      (λ i is e. subst (AreValues i.mapping) (sym e) (values_are i.mapping i.stamp d.tree is.mapping)) b
 
-  pub all_fit : AllFit c docs
-  all_fit = All-from_recursion (Fits c) docs (all_map (HasSmall f.pivot.agg.field) (Fits c) (λ d small. fits_doc c f d small) docs all_small)
+  pub doc_values : (P : List ℕ → Type 0) (d : Doc) → IsBuiltDoc indices d → HasTexts P d → HasValues P d
+  doc_values P d b known = by (slice_get indices d.index) (has_mapping d b)
+    where
+      by : (o : Option SourceIndex) → IsSomeAnd o (λ i. AreValues i.mapping d.values) → HasValues P d
+      by None h = absurd h
+      by (Some i) h = has_values P i.mapping d h known
 
-  -- no sum leaves i64
-  pub no_range : (k : Key) → length docs ≤ 500 → sum_range c k (counted c None docs) ≡ None
-  unfolding sum_range with_key counted
-  no_range k few =
-      let field = f.pivot.agg.field in
-      let kept = filter (has_key c k) (filter (counts c None) docs) in
-      let small = all_filter (HasSmall field) (has_key c k) (filter (counts c None) docs) (all_filter (HasSmall field) (counts c None) docs all_small) in
-      let bounds = total_bound field kept small in
-      let within : length kept ≤ 2 ^ 31 = omega (arith, few, few_filter (has_key c k) (filter (counts c None) docs), few_filter (counts c None) docs) in
-      let one : Agg = record { name = f.pivot.agg.name; field = field; kind = Sum } in
-      ap (λ s. first_wide k (aggs_of s) kept) f.pivot.shape
-      ∙ (ap (λ (kind : AggKind). first_wide k (record { name = f.pivot.agg.name; field = field; kind = kind } ∷ []) kept) f.pivot.sum
-      ∙ ap (λ (b : Bool). or_else (option_map (sum_range_at k one) (if b then None else Some (total (field_values field kept)))) None) (in_i64 (total (field_values field kept)) (length kept) within bounds.0 bounds.1))
+  -- the name of an index with a number among those of some names
+  pub record IsNamed (names : List (List ℕ)) (n : ℕ) : Type 0 where
+    pub name : List ℕ
+    pub among : is_one_of names name ≡ true
+    pub number : number_of name indices ≡ Some n
+
+  name_of : (names : List (List ℕ)) (n : ℕ) → list_any (nat_eq n) (source_numbers indices names) ≡ true → IsNamed names n
+  name_of [] n e = absurd (let z : false ≡ true = e in cc)
+  name_of (name ∷ names) n e = by (number_of name indices) refl (name_of names n) e
+    where
+      later : IsNamed names n → IsNamed (name ∷ names) n
+      later r = record { name = r.name; among = either (bytes_eq name r.name) (is_one_of names r.name) r.among; number = r.number }
+        where
+          either : (a b : Bool) → b ≡ true → (a || b) ≡ true
+          either true b e = refl
+          either false b e = e
+
+      here : (m : ℕ) (b : Bool) → number_of name indices ≡ Some m → nat_eq n m ≡ b → (list_any (nat_eq n) (source_numbers indices names) ≡ true → IsNamed names n)
+          → (b || list_any (nat_eq n) (source_numbers indices names)) ≡ true → IsNamed (name ∷ names) n
+      here m true is same rest f = record {
+        name = name;
+        among = ap (λ b. b || is_one_of names name) (same_itself name);
+        number = is ∙ ap Some (sym (same_nat n m same));
+      }
+      here m false is same rest f = later (rest f)
+
+      by : (o : Option ℕ) → number_of name indices ≡ o → (list_any (nat_eq n) (source_numbers indices names) ≡ true → IsNamed names n) → list_any (nat_eq n) (cons_option o (source_numbers indices names)) ≡ true → IsNamed (name ∷ names) n
+      by None is rest f = later (rest f)
+      by (Some m) is rest f = here m (nat_eq n m) is refl rest f
+
+-- the mapping beside a name is that of the index with its number
+mapping_at : (indices : List SourceIndex) (name : List ℕ) (n : ℕ) (P : Mapping → Type 0) → number_of name indices ≡ Some n → IsSomeAnd (slice_get indices n) (λ i. P i.mapping)
+    → IsSomeAnd (mapping_named (catalogued indices) name) P
+mapping_at [] name n P e h = absurd h
+mapping_at (i ∷ indices) name n P e h = by (bytes_eq name i.name) (λ k is g. mapping_at indices name k P is g) (sym (position_cons (λ (s : SourceIndex). bytes_eq name s.name) i indices) ∙ e)
+  where
+    there : (o : Option ℕ) (m : ℕ) → option_map suc o ≡ Some m → IsSomeAnd (slice_get (i ∷ indices) m) (λ s. P s.mapping)
+        → ((k : ℕ) → o ≡ Some k → IsSomeAnd (slice_get indices k) (λ s. P s.mapping) → IsSomeAnd (mapping_named (catalogued indices) name) P)
+        → IsSomeAnd (mapping_named (catalogued indices) name) P
+    there None m f g rest = absurd (let z : ◌≡◌ {A = Option ℕ} None (Some m) = f in cc)
+    there (Some k) m f g rest = rest k refl (subst (λ x. IsSomeAnd (slice_get (i ∷ indices) x) (λ s. P s.mapping)) (sym (same_Some (suc k) m f)) g)
+
+    by : (b : Bool) → ((k : ℕ) → number_of name indices ≡ Some k → IsSomeAnd (slice_get indices k) (λ s. P s.mapping) → IsSomeAnd (mapping_named (catalogued indices) name) P)
+        → (if b then Some 0 else option_map suc (number_of name indices)) ≡ Some n → IsSomeAnd (if b then Some i.mapping else mapping_named (catalogued indices) name) P
+    by true rest f = subst (λ x. IsSomeAnd (slice_get (i ∷ indices) x) (λ s. P s.mapping)) (sym (same_Some 0 n f)) h
+    by false rest f = there (number_of name indices) n f h rest
+
+-- ---- the documents that a transform reads
+module _ (indices : List SourceIndex) (docs : List Doc) (puts : List PutTransform) (b : IsBuiltPast indices docs puts) (p : PutTransform) (put : IsBuiltPut indices p) where
+  -- a document of a source fits the configuration
+  doc_fits : (d : Doc) → is_among p.sources d ≡ true → IsBuiltDoc indices d → Fits p.config d
+  doc_fits d among built =
+      let n = name_of indices b.each_index p.config.sources d.index (subst (λ sources. list_any (nat_eq d.index) sources ≡ true) put.sources among) in
+      by n.name n.among (mapping_named (catalogued indices) n.name) refl (mapping_at indices n.name d.index (λ m. AreValues m d.values) n.number (has_mapping indices b.each_index d built))
+    where
+      by : (name : List ℕ) → is_one_of p.config.sources name ≡ true → (o : Option Mapping) → mapping_named (catalogued indices) name ≡ o → IsSomeAnd o (λ m. AreValues m d.values) → Fits p.config d
+      by name among None is h = absurd h
+      by name among (Some m) is h = passing_fits (catalogued indices) p.config name m d put.checked among is h
+
+  all_fit : (ds : List Doc) → AllByRecursion (IsBuiltDoc indices) ds → AllByRecursion (Fits p.config) (filter (is_among p.sources) ds)
+  all_fit [] all = tt
+  all_fit (d ∷ ds) all = by (is_among p.sources d) refl (all_fit ds all.1)
+    where
+      by : (x : Bool) → is_among p.sources d ≡ x → AllByRecursion (Fits p.config) (filter (is_among p.sources) ds) → AllByRecursion (Fits p.config) (if x then d ∷ filter (is_among p.sources) ds else filter (is_among p.sources) ds)
+      by true is rest = (doc_fits d is all.0, rest)
+      by false is rest = rest
+
+  pub reads_fit : (n : ℕ) → AllFit p.config (filter (is_among p.sources) (take n docs))
+  reads_fit n = All-from_recursion (Fits p.config) (filter (is_among p.sources) (take n docs)) (all_fit (take n docs) (all_take (IsBuiltDoc indices) n docs b.each_doc))
+
+  -- what is known of their texts is known of their values
+  pub reads_have : (P : List ℕ → Type 0) (n : ℕ) → AllByRecursion (HasTexts P) docs → AllByRecursion (HasValues P) (filter (is_among p.sources) (take n docs))
+  reads_have P n known = all_filter (HasValues P) (is_among p.sources) (take n docs) (all_take (HasValues P) n docs (values_all docs b.each_doc known))
+    where
+      values_all : (ds : List Doc) → AllByRecursion (IsBuiltDoc indices) ds → AllByRecursion (HasTexts P) ds → AllByRecursion (HasValues P) ds
+      values_all [] all known = tt
+      values_all (d ∷ ds) all known = (doc_values indices b.each_index P d all.0 known.0, values_all ds all.1 known.1)

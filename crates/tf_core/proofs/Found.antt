@@ -23,7 +23,7 @@ use Rattle.tf_core.specs.declared.ids.Ids.{Ids}
 use Rattle.tf_core.specs.declared.transform.Transform.{Transform}
 use Rattle.tf_core.specs.Ids.{AreIndexed, place_at}
 use Rattle.tf_core.specs.Legal.{IsTakenPast, read}
-use Rattle.tf_core.specs.Lookups.{head_of, into_at, is_into, some_has}
+use Rattle.tf_core.specs.Lookups.{into_at, is_into, some_has}
 use Rattle.tf_core.specs.Standing.{Stands}
 use Rattle.tf_core.specs.Summary.{put_of}
 use Rattle.tf_core.specs.Table.{Tells, transform_at}
@@ -31,6 +31,35 @@ use Rattle.tf_mapping.specs.Documents.{values_of}
 use Rattle.tf_core.proofs.Numbers.{position_cons}
 use Rattle.tf_core.proofs.Tables.{same_itself}
 use Rattle.tf_core.proofs.Taken.{is_allowed}
+
+-- ---- what is found stands at its place
+pub not_found : (P : Doc → Bool) (docs : List Doc) → position P docs ≡ None → find P docs ≡ None
+not_found P [] e = refl
+not_found P (d ∷ docs) e = by_first (P d) (sym (position_cons P d docs) ∙ e) (not_found P docs)
+  where
+    rest : (o : Option ℕ) → option_map suc o ≡ None → o ≡ None
+    rest None e = refl
+    rest (Some n) e = absurd (let z : ◌≡◌ {A = Option ℕ} None (Some (suc n)) = sym e in cc)
+
+    by_first : (b : Bool) → cond b (Some 0) (option_map suc (position P docs)) ≡ None → (position P docs ≡ None → find P docs ≡ None) → cond b (Some d) (find P docs) ≡ None
+    by_first true e again = absurd (let z : ◌≡◌ {A = Option ℕ} None (Some 0) = sym e in cc)
+    by_first false e again = again (rest (position P docs) e)
+
+pub found_at : (P : Doc → Bool) (docs : List Doc) (place : ℕ) → position P docs ≡ Some place → find P docs ≡ slice_get docs place
+found_at P [] place e = absurd (let z : ◌≡◌ {A = Option ℕ} None (Some place) = e in cc)
+found_at P (d ∷ docs) place e = by_first (P d) (sym (position_cons P d docs) ∙ e) (found_at P docs)
+  where
+    behind : (o : Option ℕ) → ((n : ℕ) → o ≡ Some n → find P docs ≡ slice_get docs n) → option_map suc o ≡ Some place → find P docs ≡ slice_get (d ∷ docs) place
+    behind None again e = absurd (let z : ◌≡◌ {A = Option ℕ} None (Some place) = e in cc)
+    behind (Some n) again e = let at : suc n ≡ place = cc in subst (λ p. find P docs ≡ slice_get (d ∷ docs) p) at (again n refl)
+
+    first : Some 0 ≡ Some place → Some d ≡ slice_get (d ∷ docs) place
+    first e = let at : 0 ≡ place = cc in subst (λ p. Some d ≡ slice_get (d ∷ docs) p) at refl
+
+    by_first : (b : Bool) → cond b (Some 0) (option_map suc (position P docs)) ≡ Some place → ((n : ℕ) → position P docs ≡ Some n → find P docs ≡ slice_get docs n)
+        → cond b (Some d) (find P docs) ≡ slice_get (d ∷ docs) place
+    by_first true e again = first e
+    by_first false e again = behind (position P docs) again e
 
 -- ---- documents
 position_is : (P : Doc → Bool) (docs : List Doc) (p : ℕ) (d : Doc) → slice_get docs p ≡ Some d → P d ≡ true → ((q : ℕ) (x : Doc) → slice_get docs q ≡ Some x → P x ≡ true → q ≡ p) → position P docs ≡ Some p
@@ -169,22 +198,6 @@ module _ (past : List Entry) (indices : List SourceIndex) (docs : List Doc) (ts 
   into_tells name t e =
       subst (λ ds. Tells ds (Some t) (life t.id (read past))) (sym stands.docs_are)
       (subst (λ x. Tells docs x (life t.id (read past))) (into_by_id name ts t (subst AreApart stands.transforms_are (transforms_apart past stands.taken)) e) (stands.lives t.id))
-
-  newest_found : (xs : List Transform) → option_map put_of (head_of xs) ≡ head_of (map put_of xs)
-  newest_found [] = refl
-  newest_found (x ∷ xs) = refl
-
-  pub newest_in : (x : Option Transform) → x ≡ head_of ts → option_map put_of x ≡ head_of (transforms past)
-  newest_in x e = ap (option_map put_of) e ∙ (newest_found ts ∙ ap head_of (sym stands.transforms_are))
-
-  newest_by_id : (xs : List Transform) (t : Transform) → head_of xs ≡ Some t → transform_at t.id xs ≡ Some t
-  newest_by_id [] t e = absurd (let z : ◌≡◌ {A = Option Transform} None (Some t) = e in cc)
-  newest_by_id (x ∷ xs) t e =
-      subst (λ (y : Transform). cond (is_same y.id x.id) (Some x) (transform_at y.id xs) ≡ Some y) (same_Some x t e) (ap (λ b. cond b (Some x) (transform_at x.id xs)) (same_itself x.id))
-
-  pub newest_tells : (t : Transform) → head_of ts ≡ Some t → Tells (documents (read past)) (Some t) (life t.id (read past))
-  newest_tells t e =
-      subst (λ ds. Tells ds (Some t) (life t.id (read past))) (sym stands.docs_are) (subst (λ x. Tells docs x (life t.id (read past))) (newest_by_id ts t e) (stands.lives t.id))
 
   dest_names : (name : List ℕ) (xs : List Transform) → list_any (is_into name) (map put_of xs) ≡ list_any (λ (t : Transform). bytes_eq name t.config.dest) xs
   dest_names name [] = refl

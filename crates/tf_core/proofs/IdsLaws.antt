@@ -103,14 +103,6 @@ step_indexed docs (step.Put t) n old new h none is entered = subst (AreIndexed n
 step_indexed docs (step.Delete id) n old new h none is entered = subst (AreIndexed new) (sym (append-nil docs)) (same_indexed docs old new h entered)
 step_indexed docs (step.Change id by) n old new h none is entered = subst (AreIndexed new) (sym (append-nil docs)) (same_indexed docs old new h entered)
 
-get_left : (docs more : List Doc) (p : ℕ) (d : Doc) → slice_get docs p ≡ Some d → slice_get (docs ++ more) p ≡ Some d
-get_left [] more p d e = absurd (let z : ◌≡◌ {A = Option Doc} None (Some d) = e in cc)
-get_left (y ∷ docs) more zero d e = e
-get_left (y ∷ docs) more (suc p) d e = get_left docs more p d e
-
-pub first_indexed : (ids : Ids) (docs more : List Doc) → AreIndexed ids (docs ++ more) → AreIndexed ids docs
-first_indexed ids docs more h p d e = h p d (get_left docs more p d e)
-
 -- ---- steps one after the other
 append_assoc : {X : Type 0} (xs ys zs : List X) → (xs ++ ys) ++ zs ≡ xs ++ (ys ++ zs)
 append_assoc [] ys zs = refl

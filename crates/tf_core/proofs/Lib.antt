@@ -2,6 +2,8 @@ pub mod Placed
 pub mod Mapped
 pub mod Truths
 pub mod Written
+pub mod Fields
+pub mod NamedOnce
 pub mod BuiltPast
 pub mod Set
 pub mod Tables
@@ -26,9 +28,11 @@ pub mod AllowedTransforms
 pub mod AllowedRows
 pub mod Sums
 pub mod Fitting
+pub mod FirstCheckpoint
 pub mod AllowedKinds
 pub mod Used
 pub mod NextMove
+pub mod KeyParts
+pub mod NextPages
 pub mod PageRows
 pub mod NextKind
-pub mod Beside

@@ -34,9 +34,6 @@ added_more : (steps : List Prepared) (p : Prepared) → all_added (steps ++ p �
 added_more [] p = append-nil (added p.step)
 added_more (x ∷ steps) p = ap (λ ss. added x.step ++ ss) (added_more steps p) ∙ sym (append_assoc (added x.step) (all_added steps) (added p.step))
 
-pub fit_first : (indices : List SourceIndex) (entries : List Entry) → AllFit indices entries → AllFit (indices ++ []) entries
-fit_first indices entries h = subst (λ ss. AllFit ss entries) (sym (append-nil indices)) h
-
 module _ (indices : List SourceIndex) (room : ℕ) (steps now : List Prepared) (p : Prepared) (e : Entry) (more : now ≡ steps ++ p ∷ []) (h : IsPreparedFor (indices ++ all_added steps) room e p) where
   pub same_more : (rest : List Entry) → entries_in now ++ rest ≡ entries_in steps ++ e ∷ rest
   same_more rest = ap (λ xs. entries_in xs ++ rest) more ∙ (entries_more steps p rest ∙ ap (λ x. entries_in steps ++ x ∷ rest) h.entry)

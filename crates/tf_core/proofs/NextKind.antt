@@ -1,58 +1,55 @@
 -- What the next move does, as an entry's kind, and that its entry is taken.
-use Rattle.std.proofs.Common.{◌≡◌, ℕ, ◌+◌, ◌<◌, ◌≤◌, Bool, true, false, ◌&&◌, List, [], ◌∷◌, length, map, take, Option, Some, None, refl, sym, ap, subst, ◌∙◌, arith, ltb-true}
+use Rattle.std.proofs.Common.{◌≡◌, ℕ, zero, suc, ◌+◌, ◌<◌, ◌≤◌, ◌^◌, Bool, true, false, ◌&&◌, List, [], ◌∷◌, length, length-take, map, take, Option, Some, None, refl, sym, ap, subst, ◌∙◌, arith, ltb-true}
 use Rattle.std.specs.Prelude.{ℤ, pos, ◌≤ℤ◌, int_le, nat_lt, nat_eq, IsSomeAnd, IfSome, if◌then◌else◌, option_map, option_and_then}
 use Rattle.std.specs.List.{AllByRecursion}
+use Rattle.std.proofs.lemmas.Int.{ints}
+use Rattle.std.proofs.lemmas.List.{length-map}
+use Rattle.std.proofs.lemmas.List.Elements.{recursion_from_All}
 use Rattle.tf_model.specs.declared.doc.Doc.{Doc}
 use Rattle.tf_model.specs.declared.entry.Entry.{Entry}
 use Rattle.tf_model.specs.declared.entry.Kind.{Kind}
 use Rattle.tf_model.specs.declared.entry.Kind.TheVariants as kind
 use Rattle.tf_model.specs.declared.entry.Row.{Row}
-use Rattle.tf_history.specs.Catalogue.{SourceIndex}
+use Rattle.tf_model.specs.declared.entry.SumRange.{SumRange}
+use Rattle.tf_model.specs.declared.value.Key.{Key}
+use Rattle.tf_model.specs.Conditions.{Fits, IsSpan, greatest_date}
+use Rattle.tf_model.specs.Counted.{counted, counts}
+use Rattle.tf_model.specs.Rows.{or_else, pivot_row}
+use Rattle.tf_model.specs.Scratch.{is_pivot}
+use Rattle.tf_model.proofs.RangeLaws.{range_key}
+use Rattle.tf_history.specs.Catalogue.{SourceIndex, catalogue}
 use Rattle.tf_history.specs.Events.{Deed}
-use Rattle.tf_history.specs.Events.Deed.{Stopped, Begin, Page, Finish}
-use Rattle.tf_history.specs.Legality.{IsAllowed, MayBegin, MayPage, MayFinish, next_move, begin_move, is_started, is_active}
-use Rattle.tf_history.specs.Lives.{Life, life, documents, last_bound, next_bound}
+use Rattle.tf_history.specs.Events.Deed.{Stopped, Fail, Begin, Page, Finish}
+use Rattle.tf_history.specs.Legality.{IsAllowed, IsNotBefore, MayBegin, MayFail, MayFinish, MayPage, begin_move, is_active, is_started, next_move}
+use Rattle.tf_history.specs.LegalEntries.{FitsKind, IsRowOf}
+use Rattle.tf_history.specs.Lives.{Life, documents, last_bound, life, next_bound, read_last}
+use Rattle.tf_history.specs.Reading as history
+use Rattle.tf_history.specs.Transforms.{PutTransform, transform_of}
 use Rattle.tf_history.proofs.MovesLaw.{moves_are_legal}
 use Rattle.tf_core.specs.declared.moving.What.{What}
 use Rattle.tf_core.specs.declared.moving.What.TheVariants as what
+use Rattle.tf_core.specs.declared.paging.NextPage.{NextPage}
+use Rattle.tf_core.specs.declared.paging.NextPage.TheVariants as page
 use Rattle.tf_core.specs.declared.transform.Transform.{Transform}
-use Rattle.tf_core.specs.Allowing.{may_stop, read_by}
-use Rattle.tf_core.specs.Legal.{read}
-use Rattle.tf_core.specs.Moves.{IsPage, kind_of, what_next}
-use Rattle.tf_core.specs.Standing.{Stands}
-use Rattle.tf_core.specs.Summary.{IsSummary}
-use Rattle.tf_core.specs.Table.{Tells, transform_at}
-use Rattle.tf_core.proofs.AllowedKinds.{read_is_legal, unbounded}
-use Rattle.tf_core.proofs.NextMove.{move_is, deed_of, page_next, deed_by, form, is_batch, meaning_is}
-use Rattle.tf_core.proofs.Truths.{both, int_at_most, same_nat}
-use Rattle.tf_model.specs.Values.{value_of}
-use Rattle.tf_core.specs.Built.{is_among}
-use Rattle.tf_model.specs.Changed.{changed_above}
-use Rattle.tf_model.specs.Conditions.{IsSpan, greatest_date}
-use Rattle.tf_model.specs.Counted.{counted}
-use Rattle.tf_model.specs.Rows.{pivot_row}
-use Rattle.tf_model.specs.declared.value.Key.{Key}
-use Rattle.std.proofs.lemmas.List.{length-map}
-use Rattle.std.proofs.Common.{length-take}
-use Rattle.std.specs.Prelude.{min}
-use Rattle.tf_history.specs.Catalogue.{catalogue}
-use Rattle.tf_history.specs.Legality.{IsNotBefore}
-use Rattle.tf_history.specs.LegalEntries.{FitsKind, IsRowOf}
-use Rattle.tf_history.specs.Lives.{read_last}
-use Rattle.tf_history.specs.Reading as history
-use Rattle.tf_history.specs.Transforms.{PutTransform, transform_of}
+use Rattle.tf_core.specs.Allowing.{first_wide, keys_left, keys_next, may_stop, read_by, wide_sum_at}
 use Rattle.tf_core.specs.Built.{is_built}
-use Rattle.tf_core.specs.Legal.{reading, IsTaken}
-use Rattle.std.proofs.lemmas.Int.{ints}
-use Rattle.tf_core.specs.Legal.{IsTakenPast}
-use Rattle.tf_core.specs.Texts.{HasTexts, HasShortRows, IsShort, IsTextRow}
-use Rattle.tf_core.specs.Moves.{IsTakenAtOnce, clamped, last_ms_in, moment_after, move, moved}
-use Rattle.tf_core.specs.Summary.{put_of}
+use Rattle.tf_core.specs.Legal.{IsTaken, IsTakenPast, read, reading}
+use Rattle.tf_core.specs.Moves.{IsNextPage, IsPage, IsTakenAtOnce, clamped, kind_by, kind_of, last_ms_in, moment_after, move, moved, what_next}
+use Rattle.tf_core.specs.Sources.{is_among}
+use Rattle.tf_core.specs.Standing.{Stands}
+use Rattle.tf_core.specs.Summary.{IsSummary, put_of}
+use Rattle.tf_core.specs.Table.{Tells, transform_at}
+use Rattle.tf_core.specs.Texts.{HasTexts, HasValues, IsRowFor, IsShort, IsShortConfig, IsShortKind}
 use Rattle.tf_mapping.specs.Documents.{values_of}
+use Rattle.tf_core.proofs.AllowedKinds.{config_in_range, docs_fit, docs_have}
 use Rattle.tf_core.proofs.AllowedTransforms.{form_is, put_is}
-use Rattle.tf_core.proofs.Fitting.{IsBuiltForm, IsReadable, all_take, built_form, read_are_readable, text_doc}
-use Rattle.tf_core.proofs.Sums.{all_filter}
-use Rattle.tf_core.proofs.PageRows.{IsTextDoc, text_known, page_keys, rows_are_text, text_rows}
+use Rattle.tf_core.proofs.FirstCheckpoint.{first_is, read_is_legal, unbounded}
+use Rattle.tf_core.proofs.Fitting.{form_of}
+use Rattle.tf_core.proofs.KeyParts.{IsDocOf, IsKeyBy, all_kept, changed_keys}
+use Rattle.tf_core.proofs.NextMove.{deed_by, deed_of, is_batch, move_is, page_next}
+use Rattle.tf_core.proofs.PageRows.{rows_are, rows_of_shape, short_rows, sum_is_told}
+use Rattle.tf_core.proofs.Sums.{few_filter}
+use Rattle.tf_core.proofs.Truths.{both, int_at_most, same_nat}
 
 -- ---- the tests behind a choice
 abbrev choice : Bool → Bool → Bool → What
@@ -90,11 +87,10 @@ module _ (past : List Entry) (indices : List SourceIndex) (docs : List Doc) (ts 
   abbrev l : Life
   l = h.found
 
-  size : l.meaning.page_size ≡ 500
-  size = ap (λ m. m.page_size) (meaning_is past indices docs ts s id t l there h.is h.tells (pos 0)) ∙ (form past indices docs ts s id t l there h.is h.tells (pos 0)).page_size
-
   some_size : 0 < l.meaning.page_size
-  some_size = subst (λ n. 0 < n) (sym size) (omega arith)
+  some_size =
+      let range : 10 ≤ t.config.page_size = (config_in_range past indices docs ts s id t there).page_size.0 in
+      subst (λ n. 0 < n) (sym (ap (λ m. m.page_size) h.tells.meaning_is)) (omega (arith, range))
 
   fine : (moment : ℤ) (deed : Deed) → next_move id (read past) moment ≡ Some deed → IsAllowed moment deed (read past)
   fine moment deed e = (moves_are_legal (read past) id moment deed (read_is_legal past s.taken) (subst (λ o. IfSome o (λ m. 0 < m.meaning.page_size)) (sym h.is) some_size) e).0
@@ -117,73 +113,98 @@ module _ (past : List Entry) (indices : List SourceIndex) (docs : List Doc) (ts 
   pub begin_kind : what_next t ≡ what.Begin → (moment : ℤ) → Some (kind.Begin id 1 None) ≡ option_and_then kind_of (next_move id (read past) moment)
   begin_kind e moment = sym (ap (option_and_then kind_of) (begin_deed e moment))
 
-  -- a page of rows, a Finish where there are none
-  abbrev pub kind_by : List Row → Kind
-  kind_by [] = kind.Finish id t.begun
-  kind_by (r ∷ rows) = kind.Page id t.begun (r ∷ rows)
-
-  pub page_by : (rows : List Row) → (rows ≡ [] → ⊥) → kind.Page id t.begun rows ≡ kind_by rows
-  page_by [] some = absurd (some refl)
-  page_by (r ∷ rows) some = refl
-
   some_begun : what_next t ≡ what.Page → 0 < length l.checkpoints
   some_begun e =
       let index = both (nat_lt t.finished t.begun) (is_active t.state) (pages (may_stop t) (is_started t.state && nat_eq t.begun 0) (nat_lt t.finished t.begun && is_active t.state) e) in
       let below : t.finished < t.begun = ltb-true t.finished t.begun index.0 in
       omega (arith, below, h.tells.begun)
 
-  page_deed : (e : what_next t ≡ what.Page) (rows : List Row) → IsPage t.config t.position (read_by t docs) rows → (moment : ℤ)
-      → next_move id (read past) moment ≡ Some (deed_by past indices docs ts s id t l there h.is h.tells moment (some_begun e) rows)
-  page_deed e rows page moment =
-      next moment ∙ (ap (deed_of past indices docs ts s id t l there h.is h.tells moment) e ∙ page_next past indices docs ts s id t l there h.is h.tells moment (some_begun e) rows page)
+  page_deed : (e : what_next t ≡ what.Page) (p : NextPage) → IsNextPage t docs p → (moment : ℤ)
+      → next_move id (read past) moment ≡ Some (deed_by past indices docs ts s id t l there h.is h.tells moment p)
+  page_deed e p made moment =
+      next moment ∙ (ap (deed_of past indices docs ts s id t l there h.is h.tells moment) e ∙ page_next past indices docs ts s id t l there h.is h.tells moment (some_begun e) p made)
 
-  -- the same as a deed
-  abbrev now_by : List Row → Deed
-  now_by [] = Finish id t.begun
-  now_by (r ∷ rows) = Page id t.begun (r ∷ rows)
+  -- the same with the number that is kept
+  abbrev now_by : NextPage → Deed
+  now_by (page.Fails found) = Fail id t.begun found.key found.name found.value
+  now_by (page.Rows []) = Finish id t.begun
+  now_by (page.Rows (r ∷ rows)) = Page id t.begun (r ∷ rows)
 
-  now_deed : (e : what_next t ≡ what.Page) (rows : List Row) → IsPage t.config t.position (read_by t docs) rows → (moment : ℤ) → next_move id (read past) moment ≡ Some (now_by rows)
-  now_deed e [] page moment =
-      let is_next : next_move id (read past) moment ≡ Some (Finish id (l.finished + 1)) = page_deed e [] page moment in
+  now_deed : (e : what_next t ≡ what.Page) (p : NextPage) → IsNextPage t docs p → (moment : ℤ) → next_move id (read past) moment ≡ Some (now_by p)
+  now_deed e (page.Fails found) made moment =
+      let is_next = page_deed e (page.Fails found) made moment in
+      let may : MayFail l (l.finished + 1) found.key found.name found.value
+      = subst (λ o. IsSomeAnd o (λ m. MayFail m (l.finished + 1) found.key found.name found.value)) h.is (fine moment (Fail id (l.finished + 1) found.key found.name found.value) is_next) in
+      is_next ∙ ap (λ n. Some (Fail id n found.key found.name found.value)) (may.running.1 ∙ sym h.tells.begun)
+  now_deed e (page.Rows []) made moment =
+      let is_next = page_deed e (page.Rows []) made moment in
       let may : MayFinish l (l.finished + 1) = subst (λ o. IsSomeAnd o (λ m. MayFinish m (l.finished + 1))) h.is (fine moment (Finish id (l.finished + 1)) is_next) in
       is_next ∙ ap (λ n. Some (Finish id n)) (may.running.1 ∙ sym h.tells.begun)
-  now_deed e (r ∷ rows) page moment =
-      let is_next : next_move id (read past) moment ≡ Some (Page id (l.finished + 1) (r ∷ rows)) = page_deed e (r ∷ rows) page moment in
+  now_deed e (page.Rows (r ∷ rows)) made moment =
+      let is_next = page_deed e (page.Rows (r ∷ rows)) made moment in
       let may : MayPage l (l.finished + 1) (r ∷ rows) = subst (λ o. IsSomeAnd o (λ m. MayPage m (l.finished + 1) (r ∷ rows))) h.is (fine moment (Page id (l.finished + 1) (r ∷ rows)) is_next) in
       is_next ∙ ap (λ n. Some (Page id n (r ∷ rows))) (may.running.1 ∙ sym h.tells.begun)
 
-  kind_of_now : (rows : List Row) → kind_of (now_by rows) ≡ Some (kind_by rows)
-  kind_of_now [] = refl
-  kind_of_now (r ∷ rows) = refl
+  kind_of_now : (p : NextPage) → kind_of (now_by p) ≡ Some (kind_by id t.begun p)
+  kind_of_now (page.Fails found) = refl
+  kind_of_now (page.Rows []) = refl
+  kind_of_now (page.Rows (r ∷ rows)) = refl
 
-  pub page_kind : (e : what_next t ≡ what.Page) (rows : List Row) → IsPage t.config t.position (read_by t docs) rows → (moment : ℤ)
-      → Some (kind_by rows) ≡ option_and_then kind_of (next_move id (read past) moment)
-  page_kind e rows page moment = sym (ap (option_and_then kind_of) (now_deed e rows page moment) ∙ kind_of_now rows)
+  pub page_kind : (e : what_next t ≡ what.Page) (p : NextPage) → IsNextPage t docs p → (moment : ℤ)
+      → Some (kind_by id t.begun p) ≡ option_and_then kind_of (next_move id (read past) moment)
+  page_kind e p made moment = sym (ap (option_and_then kind_of) (now_deed e p made moment) ∙ kind_of_now p)
 
 -- ---- the entry of the next move is taken
--- a row of a page of texts
 abbrev IsAny : List ℕ → Type 0
-IsAny s = Unit {0}
+IsAny u = Unit {0}
 
 any_texts : (docs : List Doc) → AllByRecursion (HasTexts IsAny) docs
 any_texts [] = tt
 any_texts (d ∷ docs) = (λ name u e. tt, any_texts docs)
 
 module _ (past : List Entry) (indices : List SourceIndex) (docs : List Doc) (ts : List Transform) (s : Stands past indices docs ts) (id : List ℕ) (t : Transform) (there : transform_at id ts ≡ Some t) where
-  -- each document that can be read has a text in the group's field
-  texts_of : (P : List ℕ → Type 0) (f : IsBuiltForm t.config) (ds : List Doc) → AllByRecursion (IsReadable t.config.shape) ds → AllByRecursion (HasTexts P) ds → AllByRecursion (IsTextDoc P t.config f) ds
-  texts_of P f [] all known = tt
-  texts_of P f (d ∷ ds) all known = (
-    text_known P (value_of d f.pivot.group.field) (text_doc t.config f d all.0) (λ u e. known.0 f.pivot.group.field u e),
-    texts_of P f ds all.1 known.1,
-  )
+  -- the documents of a checkpoint, whatever is known of their texts
+  known_docs : (P : List ℕ → Type 0) → AllByRecursion (HasTexts P) docs → AllByRecursion (IsDocOf P t.config) (read_by t docs)
+  known_docs P known = both_all (read_by t docs) (docs_have past indices docs ts s id t there P known) (recursion_from_All (Fits t.config) (read_by t docs) (docs_fit past indices docs ts s id t there))
+    where
+      both_all : (ds : List Doc) → AllByRecursion (HasValues P) ds → AllByRecursion (Fits t.config) ds → AllByRecursion (IsDocOf P t.config) ds
+      both_all [] a b = tt
+      both_all (d ∷ ds) a b = ((a.0, b.0), both_all ds a.1 b.1)
+
+  counted_docs : (P : List ℕ → Type 0) → AllByRecursion (HasTexts P) docs → AllByRecursion (IsDocOf P t.config) (counted t.config t.bound (read_by t docs))
+  unfolding counted
+  counted_docs P known = all_kept (IsDocOf P t.config) (counts t.config t.bound) (read_by t docs) (known_docs P known)
+
+  few_counted : length docs < 2 ^ 63 → length (counted t.config t.bound (read_by t docs)) < 2 ^ 63
+  unfolding counted
+  few_counted few =
+      let a = few_filter (counts t.config t.bound) (read_by t docs) in
+      let b = few_filter (is_among t.sources) (take t.read docs) in
+      let c = length-take t.read docs in
+      omega (arith, few, a, b, c)
+
+  pivot : is_pivot t.config.shape ≡ true
+  pivot = (form_of t.config (form_is past indices docs ts s id t there).form).pivot
+
+  keys_left_are : (P : List ℕ → Type 0) → AllByRecursion (HasTexts P) docs → AllByRecursion (IsKeyBy P t.config) (keys_next t docs)
+  keys_left_are P known =
+      all_first (IsKeyBy P t.config) t.config.page_size (keys_left t docs)
+      (changed_keys P t.config pivot (config_in_range past indices docs ts s id t there) t.bound t.position (read_by t docs) (known_docs P known))
+    where
+      all_first : {X : Type 0} (Q : X → Type 0) (n : ℕ) (xs : List X) → AllByRecursion Q xs → AllByRecursion Q (take n xs)
+      all_first Q zero xs all = tt
+      all_first Q (suc n) [] all = tt
+      all_first Q (suc n) (x ∷ xs) all = (all.0, all_first Q n xs all.1)
+
+  page_rows : (P : List ℕ → Type 0) → AllByRecursion (HasTexts P) docs → length docs < 2 ^ 63 → (rows : List Row) → IsPage t docs rows → AllByRecursion (IsRowFor P t.config) rows
+  page_rows P known few rows made = rows_are P t.config (keys_next t docs) (counted t.config t.bound (read_by t docs)) rows (counted_docs P known) (few_counted few) (keys_left_are P known) made
 
   abbrev IsTimely : ℤ → Type 0
   IsTimely moment = IsSpan moment × IsNotBefore moment (read past)
 
   -- an entry of a deed that comes next
   taken_next : (moment : ℤ) (k : Kind) (deed : Deed) → IsTimely moment → next_move id (read past) moment ≡ Some deed → history.deed_of values_of (catalogue past) k ≡ deed → FitsKind reading past moment k
-      → is_built past k ≡ true → IsTaken past (moved moment k)
+      → is_built k ≡ true → IsTaken past (moved moment k)
   unfolding reading
   taken_next moment k deed time next same fits form = record {
     legal = record {
@@ -204,49 +225,55 @@ module _ (past : List Entry) (indices : List SourceIndex) (docs : List Doc) (ts 
   pub begin_taken : what_next t ≡ what.Begin → (moment : ℤ) → IsTimely moment → IsTaken past (moved moment (kind.Begin id 1 None))
   begin_taken e moment time = taken_next moment (kind.Begin id 1 None) (Begin id 1 None) time (begin_deed past indices docs ts s id t there e moment) refl tt refl
 
-  -- the rows of the next page, whatever is known of the texts of documents
-  pub page_texts : (P : List ℕ → Type 0) → AllByRecursion (HasTexts P) docs → (rows : List Row)
-      → IsPage t.config t.position (read_by t docs) rows → AllByRecursion (IsTextRow P) rows
-  page_texts P known rows page =
-      let put = form_is past indices docs ts s id t there in
-      let f = built_form t.config put.form in
-      let read_docs = read_by t docs in
-      let texts = texts_of P f read_docs (read_are_readable t.config.shape t.sources t.read docs put.reads) (all_filter (HasTexts P) (is_among t.sources) (take t.read docs) (all_take (HasTexts P) t.read docs known)) in
-      rows_are_text P t.config f (counted t.config None read_docs) (take 500 (changed_above t.config None None t.position read_docs)) rows (page_keys P t.config f t.position read_docs texts) page
-
-  -- a page has at most 500 rows
-  pub page_short : AllByRecursion (HasTexts IsShort) docs → (rows : List Row) → IsPage t.config t.position (read_by t docs) rows → HasShortRows (kind_by past indices docs ts s id t there rows)
-  page_short known [] page = tt
-  page_short known (r ∷ rows) page =
-      let few : length (r ∷ rows) ≤ 500 = few_rows (r ∷ rows) (take 500 (changed_above t.config None None t.position (read_by t docs))) (λ k. pivot_row t.config k (counted t.config None (read_by t docs))) page (length-take 500 (changed_above t.config None None t.position (read_by t docs))) in
-      (few, page_texts IsShort known (r ∷ rows) page)
+  -- the texts of the next entry are short
+  pub page_short : AllByRecursion (HasTexts IsShort) docs → IsShortConfig t.config → length docs < 2 ^ 63 → (p : NextPage) → IsNextPage t docs p → IsShortKind (kind_by id t.begun p)
+  page_short known short few (page.Rows []) made = tt
+  page_short known short few (page.Rows (r ∷ rows)) made = (few_rows (r ∷ rows) made.0, short_rows t.config (r ∷ rows) short (page_rows IsShort known few (r ∷ rows) made.0))
     where
-      few_rows : (rows : List Row) (keys : List Key) (f : Key → Option Row) → map Some rows ≡ map f keys → length keys ≡ min 500 (length (changed_above t.config None None t.position (read_by t docs))) → length rows ≤ 500
-      few_rows rows keys f made few = let same : length rows ≡ length keys = simp length-map at (ap length made) in omega (arith, same, few)
+      same_count : {X Y Z : Type 0} (f : X → Z) (g : Y → Z) (xs : List X) (ys : List Y) → map f xs ≡ map g ys → length xs ≡ length ys
+      same_count f g xs ys made = sym (length-map xs f) ∙ (ap length made ∙ length-map ys g)
 
-  pub page_taken : (e : what_next t ≡ what.Page) (rows : List Row) → IsPage t.config t.position (read_by t docs) rows → (moment : ℤ) → IsTimely moment
-      → IsTaken past (moved moment (kind_by past indices docs ts s id t there rows))
+      few_rows : (rows : List Row) → IsPage t docs rows → length rows ≤ 65536
+      few_rows rows made =
+          let same = same_count Some (λ k. pivot_row t.config k (counted t.config t.bound (read_by t docs))) rows (keys_next t docs) made in
+          let size : t.config.page_size ≤ 65536 = (config_in_range past indices docs ts s id t there).page_size.1 in
+          let keys = length-take t.config.page_size (keys_left t docs) in
+          omega (arith, same, size, keys)
+  page_short known short few (page.Fails found) fails =
+      let sum = first_is t docs (keys_next t docs) found fails in
+      let told = sum_is_told IsShort t.config IsShort found.key (counted t.config t.bound (read_by t docs)) found short.names (counted_docs IsShort known) (few_counted few) sum in
+      let key = key_there (keys_next t docs) (keys_left_are IsShort known) found fails in
+      (subst (λ n. n < 2 ^ 32) (sym key.0) short.groups, key.1, told.0, told.1)
+    where
+      key_there : (keys : List Key) → AllByRecursion (IsKeyBy IsShort t.config) keys → (found : SumRange) → first_wide t docs keys ≡ Some found → IsKeyBy IsShort t.config found.key
+      key_there [] all found e = absurd (let z : ◌≡◌ {A = Option SumRange} None (Some found) = e in cc)
+      key_there (k ∷ keys) all found e = by (wide_sum_at t docs k) refl (key_there keys all.1 found) e
+        where
+          by : (o : Option SumRange) → wide_sum_at t docs k ≡ o → (first_wide t docs keys ≡ Some found → IsKeyBy IsShort t.config found.key) → or_else o (first_wide t docs keys) ≡ Some found
+              → IsKeyBy IsShort t.config found.key
+          by None is rest f = rest f
+          by (Some other) is rest f = subst (IsKeyBy IsShort t.config) (sym (range_key t.config k (counted t.config t.bound (read_by t docs)) found (is ∙ f))) all.0
+
+  pub page_taken : length docs < 2 ^ 63 → what_next t ≡ what.Page → (p : NextPage) → IsNextPage t docs p → (moment : ℤ) → IsTimely moment → IsTaken past (moved moment (kind_by id t.begun p))
   unfolding reading
-  page_taken e [] page moment time = taken_next moment (kind.Finish id t.begun) (Finish id t.begun) time (now_deed past indices docs ts s id t there e [] page moment) refl tt refl
-  page_taken e (r ∷ rows) page moment time =
+  page_taken few e (page.Fails found) made moment time =
+      taken_next moment (kind.Fail id t.begun found.key found.name found.value) (Fail id t.begun found.key found.name found.value) time (now_deed past indices docs ts s id t there e (page.Fails found) made moment) refl tt refl
+  page_taken few e (page.Rows []) made moment time =
+      taken_next moment (kind.Finish id t.begun) (Finish id t.begun) time (now_deed past indices docs ts s id t there e (page.Rows []) made moment) refl tt refl
+  page_taken few e (page.Rows (r ∷ rows)) made moment time =
       let kept = has_life past indices docs ts s id t there in
-      let f = built_form t.config (form_is past indices docs ts s id t there).form in
       let fit : AllByRecursion (IsRowOf t.config.shape (read_last kept.found.checkpoints)) (r ∷ rows)
-      = text_rows IsAny t.config f (read_last kept.found.checkpoints) (r ∷ rows) (page_texts IsAny (any_texts docs) (r ∷ rows) page) in
-      taken_next moment (kind.Page id t.begun (r ∷ rows)) (Page id t.begun (r ∷ rows)) time (now_deed past indices docs ts s id t there e (r ∷ rows) page moment) refl
+      = rows_of_shape t.config.shape (read_last kept.found.checkpoints) (r ∷ rows) pivot (page_rows IsAny (any_texts docs) few (r ∷ rows) made.0) in
+      taken_next moment (kind.Page id t.begun (r ∷ rows)) (Page id t.begun (r ∷ rows)) time (now_deed past indices docs ts s id t there e (page.Rows (r ∷ rows)) made moment) refl
       (page_fits (r ∷ rows)
       (subst (λ o. IsSomeAnd o (λ (p : PutTransform). IsSomeAnd (life id (read past)) (λ m. AllByRecursion (IsRowOf p.config.shape (read_last m.checkpoints)) (r ∷ rows)))) (sym (put_is past indices docs ts s id ∙ ap (option_map put_of) there))
       (subst (λ o. IsSomeAnd o (λ m. AllByRecursion (IsRowOf t.config.shape (read_last m.checkpoints)) (r ∷ rows))) (sym kept.is) fit))) refl
     where
       page_fits : (rows : List Row) → IsSomeAnd (transform_of id past) (λ (p : PutTransform). IsSomeAnd (life id (read past)) (λ m. AllByRecursion (IsRowOf p.config.shape (read_last m.checkpoints)) rows))
           → FitsKind reading past moment (kind.Page id t.begun rows)
-      page_fits rows h = h
+      page_fits rows known = known
 
 -- ---- at the moment that a given one makes
-moment_is : (past : List Entry) → IsTakenPast past → IsSpan (last_ms_in past)
-moment_is [] taken = (omega (arith, ints), omega (arith, ints))
-moment_is (e ∷ past) taken = taken.1.legal.moment
-
 clamped_is : (given : ℤ) → IsSpan (clamped given)
 clamped_is given = by (int_le given (pos 0)) (int_le greatest_date given) refl refl
   where
@@ -273,23 +300,6 @@ given_is_timely past given taken = by (int_le (last_ms_in past) (clamped given))
     by true e = (clamped_is given, not_before past (clamped given) (int_at_most (last_ms_in past) (clamped given) e))
     by false e = last_is_timely past taken
 
--- the moment of the newest entry is its own
-same_int : (a b : ℤ) → a ≤ℤ b → b ≤ℤ a → a ≡ b
-same_int a b low high = omega (arith, ints, low, high)
-
-clamped_within : (ms : ℤ) (low high : Bool) → IsSpan ms → int_le ms (pos 0) ≡ low → int_le greatest_date ms ≡ high → (if low then pos 0 else if high then greatest_date else ms) ≡ ms
-clamped_within ms true high span e f = same_int (pos 0) ms span.0 (int_at_most ms (pos 0) e)
-clamped_within ms false true span e f = same_int greatest_date ms (int_at_most greatest_date ms f) span.1
-clamped_within ms false false span e f = refl
-
-pub last_stays : (past : List Entry) → IsTakenPast past → moment_after past (last_ms_in past) ≡ last_ms_in past
-last_stays past taken =
-    by (int_le (last_ms_in past) (clamped (last_ms_in past))) (clamped (last_ms_in past)) (clamped_within (last_ms_in past) (int_le (last_ms_in past) (pos 0)) (int_le greatest_date (last_ms_in past)) (moment_is past taken) refl refl)
-  where
-    by : (b : Bool) (ms : ℤ) → ms ≡ last_ms_in past → (if b then ms else last_ms_in past) ≡ last_ms_in past
-    by true ms e = e
-    by false ms e = refl
-
 pub entry_is : (past : List Entry) (id : List ℕ) (k : Option Kind) (at_ms : ℤ) → ((moment : ℤ) → k ≡ option_and_then kind_of (next_move id (read past) moment)) → option_map (moved at_ms) k ≡ move id past at_ms
 entry_is past id k at_ms next = ap (option_map (moved at_ms)) (next at_ms)
 
@@ -297,6 +307,6 @@ pub entry_taken : (past : List Entry) (k : Option Kind) (given : ℤ) → IsTake
 entry_taken past None given taken h = tt
 entry_taken past (Some k) given taken h = let time = given_is_timely past given taken in h (moment_after past given) time.0 time.1
 
-pub short_entry : (k : Option Kind) (at_ms : ℤ) → IfSome k HasShortRows → IfSome (option_map (moved at_ms) k) (λ (e : Entry). HasShortRows e.kind)
+pub short_entry : (k : Option Kind) (at_ms : ℤ) → IfSome k IsShortKind → IfSome (option_map (moved at_ms) k) (λ (e : Entry). IsShortKind e.kind)
 short_entry None at_ms h = tt
 short_entry (Some k) at_ms h = h

@@ -38,10 +38,6 @@ first_suc P (u ∷ us) (suc i) x h p low = (h.0, first_suc P us i x h.1 p (omega
 pub first_more : (P : Transform → Type 0) (us : List Transform) (i : ℕ) (x : Transform) → AllByRecursion P (take i us) → P x → i < length us → AllByRecursion P (take (i + 1) (slice_set us i x))
 first_more P us i x h p low = subst (λ n. AllByRecursion P (take n (slice_set us i x))) (sym (add-one i)) (first_suc P us i x h p low)
 
-pub first_all : (P : Transform → Type 0) (us : List Transform) → AllByRecursion P (take (length us) us) → AllByRecursion P us
-first_all P [] h = tt
-first_all P (u ∷ us) h = (h.0, first_all P us h.1)
-
 -- ---- what stands
 summary_with : (docs : List Doc) (t : Transform) (rows : Vec Row) (l : Life) → rows.items ≡ t.rows.items → IsSummary docs t l → IsSummary docs (record t { rows = rows }) l
 summary_with docs t rows l same h = record {

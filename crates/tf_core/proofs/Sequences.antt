@@ -1,5 +1,5 @@
 -- The next sequence number of a shard.
-use Rattle.std.proofs.Common.{◌≡◌, ℕ, ℤ, zero, suc, ◌+◌, ◌-◌, ◌<◌, ◌≤◌, Bool, true, false, ◌&&◌, List, [], ◌∷◌, ◌++◌, length, take, get_or, Option, Some, None, arith, refl, sym, ap, ◌∙◌, subst, append-nil}
+use Rattle.std.proofs.Common.{◌≡◌, ℕ, ℤ, zero, suc, ◌+◌, ◌-◌, ◌<◌, Bool, true, false, ◌&&◌, List, [], ◌∷◌, ◌++◌, length, take, get_or, Option, Some, None, arith, refl, sym, ap, ◌∙◌, subst, append-nil}
 use Rattle.std.specs.Prelude.{IsSomeAnd, count_by, nat_eq, slice_get}
 use Rattle.std.proofs.lemmas.Bool.{eqb-true}
 use Rattle.std.proofs.lemmas.List.Sums.{count_by_more_no, count_by_more_yes}
@@ -56,10 +56,6 @@ docs_numbered [] h = λ p d e. absurd (let z : ◌≡◌ {A = Option Doc} None (
 docs_numbered (e ∷ past) h = after_numbered past e.at_ms e.kind h.1.legal.fits (docs_numbered past h.0)
 
 -- ---- the last document of a shard
-take_all : (docs : List Doc) → take (length docs) docs ≡ docs
-take_all [] = refl
-take_all (d ∷ docs) = ap (λ ds. d ∷ ds) (take_all docs)
-
 get_is : (docs : List Doc) (i : ℕ) (x : Doc) → i < length docs → slice_get docs i ≡ Some (get_or docs i x)
 get_is [] i x low = absurd (omega (arith, low))
 get_is (y ∷ docs) zero x low = refl
@@ -80,16 +76,6 @@ module _ (P : Doc → Bool) (docs : List Doc) (n i : ℕ) (x : Doc) (low : n < l
 
   pub there : P x ≡ true → count_by P docs ≡ count_by P (take i docs) + 1
   there e = sym so_far ∙ (ap (λ m. count_by P (take m docs)) next_take ∙ count_by_more_yes P docs i x within (ap P (sym is) ∙ e))
-
-pub all_of_them : (P : Doc → Bool) (docs : List Doc) → count_by P (take (length docs - 0) docs) ≡ count_by P docs
-all_of_them P docs = ap (λ m. count_by P (take m docs)) (let f : length docs - 0 ≡ length docs = omega arith in f) ∙ ap (count_by P) (take_all docs)
-
-pub none_of_them : (P : Doc → Bool) (docs : List Doc) (n : ℕ) → length docs ≤ n → count_by P (take (length docs - n) docs) ≡ count_by P docs → count_by P docs ≡ 0
-none_of_them P docs n high h = sym h ∙ (ap (λ m. count_by P (take m docs)) (let f : length docs - n ≡ 0 = omega (arith, high) in f) ∙ ap (count_by P) (take_none docs))
-  where
-    take_none : (ds : List Doc) → take 0 ds ≡ []
-    take_none [] = refl
-    take_none (d ∷ ds) = refl
 
 -- the document that is found has the number of those before it
 pub seq_is : (docs : List Doc) (index shard i : ℕ) (x : Doc) → AreNumbered docs → i < length docs → x ≡ get_or docs i x → is_in_shard index shard x ≡ true → x.seq ≡ count_by (is_in_shard index shard) (take i docs)

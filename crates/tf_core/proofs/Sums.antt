@@ -1,49 +1,52 @@
--- Numbers that are small, and their sums.
-use Rattle.std.proofs.Common.{◌≡◌, ℕ, ℤ, suc, ◌*◌, ◌^◌, ◌≤◌, Bool, true, false, List, [], ◌∷◌, length, filter, Option, Some, None, refl, ap, arith}
+-- Sums of numbers in i64.
+use Rattle.std.proofs.Common.{◌≡◌, ℕ, ℤ, suc, ◌*◌, ◌≤◌, Bool, true, false, List, [], ◌∷◌, length, filter, Option, Some, None, refl, arith}
 use Rattle.std.specs.Prelude.{pos, negsuc, ◌+ℤ◌, ◌-ℤ◌, ◌≤ℤ◌, if◌then◌else◌}
 use Rattle.std.specs.List.{AllByRecursion, cons_option}
 use Rattle.std.proofs.lemmas.Int.{ints}
 use Rattle.tf_model.specs.declared.doc.Doc.{Doc}
 use Rattle.tf_model.specs.declared.value.Value.{Value}
-use Rattle.tf_model.specs.declared.value.Value.TheVariants as value
 use Rattle.tf_model.specs.Conditions.{IsBetween}
-use Rattle.tf_model.specs.Rows.{total, field_values, fits_i64}
+use Rattle.tf_model.specs.Rows.{total, field_values, number_in}
 use Rattle.tf_model.specs.Values.{value_of}
-use Rattle.tf_core.specs.Built.{is_small}
-use Rattle.tf_core.proofs.Truths.{both, int_at_most}
 
--- a number of at most 1,000,000,000 either way
-abbrev pub IsSmallNumber : Option Value → Type 0
-IsSmallNumber o = (n : ℤ) × (o ≡ Some (value.Int n)) × IsBetween (negsuc 999999999) (pos 1000000000) n
+-- a number is at least -2^63 and at most 2^63
+abbrev pub IsWithin : ℤ → Type 0
+IsWithin n = IsBetween (negsuc 9223372036854775807) (pos 9223372036854775808) n
 
-pub small_number : (o : Option Value) → is_small o ≡ true → IsSmallNumber o
-small_number None e = absurd (let z : false ≡ true = e in cc)
-small_number (Some value.Null) e = absurd (let z : false ≡ true = e in cc)
-small_number (Some (value.Bool b)) e = absurd (let z : false ≡ true = e in cc)
-small_number (Some (value.Date ms)) e = absurd (let z : false ≡ true = e in cc)
-small_number (Some (value.Str text)) e = absurd (let z : false ≡ true = e in cc)
-small_number (Some (value.Int n)) e = let parts = both _ _ e in (n, refl, (int_at_most _ _ parts.0, int_at_most _ _ parts.1))
+-- so is what the value of a field counts for in a sum
+abbrev pub HasNumber : List ℕ → Doc → Type 0
+HasNumber field d = (v : Value) → value_of d field ≡ Some v → IsWithin (number_in v)
 
--- the values of a field of some documents are small
-abbrev pub HasSmall : List ℕ → Doc → Type 0
-HasSmall field d = IsSmallNumber (value_of d field)
+abbrev IsTotal : ℕ → ℤ → Type 0
+IsTotal count n = ((pos 0 -ℤ pos (9223372036854775808 * count)) ≤ℤ n) × (n ≤ℤ pos (9223372036854775808 * count))
 
--- their sum is small too
-pub total_bound : (field : List ℕ) (docs : List Doc) → AllByRecursion (HasSmall field) docs
-    → (pos 0 -ℤ pos (1000000000 * length docs)) ≤ℤ total (field_values field docs) × total (field_values field docs) ≤ℤ pos (1000000000 * length docs)
-total_bound field [] all = (omega (arith, ints), omega (arith, ints))
-total_bound field (d ∷ docs) all =
-    let here : total (field_values field (d ∷ docs)) ≡ all.0.0 +ℤ total (field_values field docs) = ap (λ (o : Option Value). total (cons_option o (field_values field docs))) all.0.1 in
-    let rest = total_bound field docs all.1 in
-    let low : negsuc 999999999 ≤ℤ all.0.0 = all.0.2.0 in
-    let high : all.0.0 ≤ℤ pos 1000000000 = all.0.2.1 in
-    (rw here (lower all.0.0 (total (field_values field docs)) (length docs) low rest.0), rw here (upper all.0.0 (total (field_values field docs)) (length docs) high rest.1))
+more : (a n : ℤ) (count : ℕ) → IsWithin a → IsTotal count n → IsTotal (suc count) (a +ℤ n)
+more a n count here rest = (lower a n count here.0 rest.0, upper a n count here.1 rest.1)
   where
-    lower : (n m : ℤ) (k : ℕ) → negsuc 999999999 ≤ℤ n → (pos 0 -ℤ pos (1000000000 * k)) ≤ℤ m → (pos 0 -ℤ pos (1000000000 * suc k)) ≤ℤ (n +ℤ m)
-    lower n m k a b = omega (arith, ints, a, b)
+    lower : (a n : ℤ) (k : ℕ) → negsuc 9223372036854775807 ≤ℤ a → (pos 0 -ℤ pos (9223372036854775808 * k)) ≤ℤ n → (pos 0 -ℤ pos (9223372036854775808 * suc k)) ≤ℤ (a +ℤ n)
+    lower a n k h r = omega (arith, ints, h, r)
 
-    upper : (n m : ℤ) (k : ℕ) → n ≤ℤ pos 1000000000 → m ≤ℤ pos (1000000000 * k) → (n +ℤ m) ≤ℤ pos (1000000000 * suc k)
-    upper n m k a b = omega (arith, ints, a, b)
+    upper : (a n : ℤ) (k : ℕ) → a ≤ℤ pos 9223372036854775808 → n ≤ℤ pos (9223372036854775808 * k) → (a +ℤ n) ≤ℤ pos (9223372036854775808 * suc k)
+    upper a n k h r = omega (arith, ints, h, r)
+
+wider : (n : ℤ) (count : ℕ) → IsTotal count n → IsTotal (suc count) n
+wider n count h = (lower n count h.0, upper n count h.1)
+  where
+    lower : (n : ℤ) (k : ℕ) → (pos 0 -ℤ pos (9223372036854775808 * k)) ≤ℤ n → (pos 0 -ℤ pos (9223372036854775808 * suc k)) ≤ℤ n
+    lower n k h = omega (arith, ints, h)
+
+    upper : (n : ℤ) (k : ℕ) → n ≤ℤ pos (9223372036854775808 * k) → n ≤ℤ pos (9223372036854775808 * suc k)
+    upper n k h = omega (arith, ints, h)
+
+-- the sum of a field of some documents, by how many they are
+pub total_within : (field : List ℕ) (docs : List Doc) → AllByRecursion (HasNumber field) docs → IsTotal (length docs) (total (field_values field docs))
+total_within field [] all = (omega (arith, ints), omega (arith, ints))
+total_within field (d ∷ docs) all = by (value_of d field) (λ v is. all.0 v is) (total_within field docs all.1)
+  where
+    by : (o : Option Value) → ((v : Value) → o ≡ Some v → IsWithin (number_in v)) → IsTotal (length docs) (total (field_values field docs))
+        → IsTotal (suc (length docs)) (total (cons_option o (field_values field docs)))
+    by None here rest = wider (total (field_values field docs)) (length docs) rest
+    by (Some v) here rest = more (number_in v) (total (field_values field docs)) (length docs) (here v refl) rest
 
 pub all_filter : (P : Doc → Type 0) (p : Doc → Bool) (docs : List Doc) → AllByRecursion P docs → AllByRecursion P (filter p docs)
 all_filter P p [] all = tt
@@ -58,6 +61,3 @@ few_filter p (d ∷ docs) = elim (p d) as (λ b. length (if b then d ∷ filter 
   | true ↦ let rest = few_filter p docs in omega arith
   | false ↦ let rest = few_filter p docs in omega arith
 ]
-
-pub in_i64 : (n : ℤ) (k : ℕ) → k ≤ 2 ^ 31 → (pos 0 -ℤ pos (1000000000 * k)) ≤ℤ n → n ≤ℤ pos (1000000000 * k) → fits_i64 n ≡ true
-in_i64 n k few low high = grind (arith, ints)

@@ -2,7 +2,7 @@
 use Rattle.std.proofs.Common.{◌≡◌, ℕ, ◌≤◌, Bool, true, false, ◌&&◌, not, List, [], ◌∷◌, Option, Some, None, refl, ap, arith}
 use Rattle.std.specs.Prelude.{ℤ, ◌||◌, ◌≤ℤ◌, int_le, nat_le, nat_eq, is_none}
 use Rattle.std.proofs.lemmas.Int.{ints}
-use Rattle.tf_core.specs.Built.{is_empty}
+use Rattle.tf_core.specs.Allowing.{is_empty}
 
 pub both : (a b : Bool) → (a && b) ≡ true → (a ≡ true) × (b ≡ true)
 both true b e = (refl, e)

@@ -1,6 +1,8 @@
 -- Whether an entry is taken, by what a core keeps.
-use Rattle.std.specs.Prelude.{ℕ, ℤ, pos, negsuc, ◌+◌, ◌^◌, int_le, nat_le, nat_lt, nat_eq, Bool, true, false, if◌then◌else◌, not, ◌&&◌, ◌||◌, List, [], ◌∷◌, count_by, filter, length, map, slice_get, take, Option, Some, None, is_none}
+use Rattle.std.specs.Prelude.{ℕ, ℤ, pos, negsuc, ◌+◌, ◌^◌, int_le, nat_le, nat_lt, nat_eq, Bool, true, false, if◌then◌else◌, not, ◌&&◌, ◌||◌, List, [], ◌∷◌, count_by, filter, length, slice_get, take, Option, Some, None, is_none}
 use Rattle.std.specs.List.{list_all, list_any}
+use Rattle.std.specs.Cmp.Lexicographic.{slice_cmp}
+use Rattle.std.specs.Ordering.{eq_by_cmp, int_eq, is_lt, nat_cmp}
 use Rattle.std.specs.Str.{bytes_eq}
 use Rattle.tf_model.specs.declared.config.Agg.{Agg}
 use Rattle.tf_model.specs.declared.config.Config.{Config}
@@ -12,6 +14,7 @@ use Rattle.tf_model.specs.declared.entry.Kind.{Kind}
 use Rattle.tf_model.specs.declared.entry.Kind.TheVariants as kind
 use Rattle.tf_model.specs.declared.entry.Row.{Row}
 use Rattle.tf_model.specs.declared.entry.Row.TheVariants as row
+use Rattle.tf_model.specs.declared.entry.SumRange.{SumRange}
 use Rattle.tf_model.specs.declared.query.FieldType.{FieldType}
 use Rattle.tf_model.specs.declared.query.Mapping.{Mapping}
 use Rattle.tf_model.specs.declared.task.State.{State}
@@ -22,20 +25,22 @@ use Rattle.tf_model.specs.declared.value.Value.{Value}
 use Rattle.tf_model.specs.declared.value.Value.TheVariants as value
 use Rattle.tf_model.specs.Changed.{is_after, changed_above}
 use Rattle.tf_model.specs.Conditions.{greatest_date}
+use Rattle.tf_model.specs.Counted.{counted}
 use Rattle.tf_model.specs.Keys.{least_date}
 use Rattle.tf_model.specs.Names.{is_index_name, is_transform_id, is_field_path}
+use Rattle.tf_model.specs.Order.{key_cmp}
+use Rattle.tf_model.specs.Rows.{or_else, sum_range}
 use Rattle.tf_history.specs.Catalogue.{SourceIndex}
 use Rattle.tf_history.specs.Legality.{is_stopped, is_started, is_active}
 use Rattle.tf_history.specs.LegalEntries.{has_date, has_id, is_in_shard}
 use Rattle.tf_history.specs.Meaning.{row_key}
 use Rattle.tf_core.specs.declared.transform.Transform.{Transform}
-use Rattle.tf_history.specs.Catalogue.{source_numbers}
-use Rattle.tf_history.specs.Transforms.{PutTransform}
 use Rattle.tf_mapping.specs.Documents.{reads, values_of}
 use Rattle.tf_mapping.specs.Routes.{shard_of}
 use Rattle.tf_mapping.specs.Written.{has_moment, is_written}
-use Rattle.tf_core.specs.Built.{are_readable, fits_indices, is_among, is_built_config, is_empty, lets_in}
-use Rattle.tf_core.specs.Summary.{put_of}
+use Rattle.tf_config.specs.Refusals.{passes}
+use Rattle.tf_core.specs.Built.{is_built_config}
+use Rattle.tf_core.specs.Sources.{catalogued, is_among}
 use Rattle.tf_core.specs.Table.{transform_at}
 
 -- a moment in range that is not before the last, and an actor
@@ -62,6 +67,16 @@ is_stamp mapping (Some field) = has_date mapping field
 abbrev pub is_field : List ℕ × FieldType → Bool
 is_field f = is_field_path f.0
 
+-- whether each name is above the one before it, and the first above another one
+abbrev pub ascends_above : List ℕ → List (List ℕ × FieldType) → Bool
+ascends_above name [] = true
+ascends_above name (f ∷ fields) = is_lt (slice_cmp nat_cmp name f.0) && ascends_above f.0 fields
+
+-- whether fields ascend by name
+abbrev pub fields_ascend : List (List ℕ × FieldType) → Bool
+fields_ascend [] = true
+fields_ascend (f ∷ fields) = ascends_above f.0 fields
+
 abbrev pub takes_index : List SourceIndex → List Transform → SourceIndex → Bool
 takes_index indices ts s =
     is_index_name s.name
@@ -71,7 +86,8 @@ takes_index indices ts s =
     && (nat_le s.shards 16
     && (nat_le (length s.mapping.fields) 64
     && (list_all (λ f. is_field f) s.mapping.fields
-    && (is_stamp s.mapping s.stamp && not s.quick)))))))
+    && (fields_ascend s.mapping.fields
+    && (is_stamp s.mapping s.stamp && not s.quick))))))))
 
 -- ---- documents
 -- the values that a mapping reads from a tree, none where it does not read it
@@ -86,15 +102,6 @@ if_stamped stamp at_ms values = if has_moment stamp at_ms values then Some value
 abbrev pub written_in : SourceIndex → ℤ → Tree → Option (List (List ℕ × Value))
 written_in s at_ms tree = if is_written s.mapping s.stamp at_ms tree then Some (values_of s.mapping s.stamp tree) else None
 
--- whether the transforms let in a document of an index
-abbrev pub is_let_in : List PutTransform → List Doc → ℕ → SourceIndex → Tree → Bool
-is_let_in puts docs index s tree = list_all (lets_in docs index (values_of s.mapping s.stamp tree)) puts
-
--- the same by the values that were read, false where there are none
-abbrev pub lets_values_in : List PutTransform → List Doc → ℕ → Option (List (List ℕ × Value)) → Bool
-lets_values_in puts docs index None = false
-lets_values_in puts docs index (Some values) = list_all (lets_in docs index values) puts
-
 -- whether a document has an id in an index
 abbrev pub is_used : ℕ → List ℕ → List Doc → Bool
 is_used index id docs = list_any (has_id index id) docs
@@ -107,23 +114,23 @@ has_place s docs index shard seq id =
     && (nat_lt seq (2 ^ 31) && (nat_le 1 (length id) && (nat_le (length id) 512 && not (is_used index id docs)))))
 
 -- whether an index takes a document at a moment
-abbrev pub takes_in : SourceIndex → List Doc → List PutTransform → ℤ → ℕ → ℕ → ℕ → List ℕ → Tree → Bool
-takes_in s docs puts at_ms index shard seq id tree =
-    has_place s docs index shard seq id && (is_written s.mapping s.stamp at_ms tree && is_let_in puts docs index s tree)
+abbrev pub takes_in : SourceIndex → List Doc → ℤ → ℕ → ℕ → ℕ → List ℕ → Tree → Bool
+takes_in s docs at_ms index shard seq id tree = has_place s docs index shard seq id && is_written s.mapping s.stamp at_ms tree
 
-abbrev pub takes_document : Option SourceIndex → List Doc → List PutTransform → ℤ → ℕ → ℕ → ℕ → List ℕ → Tree → Bool
-takes_document None docs puts at_ms index shard seq id tree = false
-takes_document (Some s) docs puts at_ms index shard seq id tree = takes_in s docs puts at_ms index shard seq id tree
+abbrev pub takes_document : Option SourceIndex → List Doc → ℤ → ℕ → ℕ → ℕ → List ℕ → Tree → Bool
+takes_document None docs at_ms index shard seq id tree = false
+takes_document (Some s) docs at_ms index shard seq id tree = takes_in s docs at_ms index shard seq id tree
 
 -- ---- transforms
--- whether a transform is in order but for the documents that are there
-abbrev pub is_well_formed : List SourceIndex → List Transform → List ℕ → Config → Bool
-is_well_formed indices ts id config =
-    is_transform_id id && (is_built_config config && (fits_indices config indices && (is_free_name indices ts config.dest && is_empty ts)))
+-- whether an id and the name of a destination are in order, and there are fewer than 64 transforms
+abbrev pub has_names : List SourceIndex → List Transform → List ℕ → List ℕ → Bool
+has_names indices ts id dest =
+    is_transform_id id && (is_none (transform_at id ts) && (nat_lt (length ts) 64 && is_free_name indices ts dest))
 
-abbrev pub takes_transform : List SourceIndex → List Doc → List Transform → List ℕ → Config → Bool
-takes_transform indices docs ts id config =
-    is_well_formed indices ts id config && are_readable config.shape (source_numbers indices config.sources) docs
+-- whether a transform may be put: a batch pivot whose configuration passes its checks
+abbrev pub takes_transform : List SourceIndex → List Transform → List ℕ → Config → Bool
+takes_transform indices ts id config =
+    has_names indices ts id config.dest && (is_built_config config && passes (catalogued indices) config)
 
 -- whether its checkpoint is finished and it makes no other
 abbrev pub is_over : Transform → Bool
@@ -192,9 +199,40 @@ may_finish t n = is_running t n && is_active t.state
 abbrev pub read_by : Transform → List Doc → List Doc
 read_by t docs = filter (is_among t.sources) (take t.read docs)
 
--- whether no changed key of a first checkpoint is above the position
+-- whether a list has nothing
+abbrev pub is_empty : {X : Type 0} → List X → Bool
+is_empty [] = true
+is_empty (x ∷ xs) = false
+
+-- the changed keys of a first checkpoint above the position
+abbrev pub keys_left : Transform → List Doc → List Key
+keys_left t docs = changed_above t.config None t.bound t.position (read_by t docs)
+
+-- whether none is left
 abbrev pub has_none_left : Transform → List Doc → Bool
-has_none_left t docs = is_empty (changed_above t.config None t.bound t.position (read_by t docs))
+has_none_left t docs = is_empty (keys_left t docs)
+
+-- the keys of the next page of a first checkpoint
+abbrev pub keys_next : Transform → List Doc → List Key
+keys_next t docs = take t.config.page_size (keys_left t docs)
+
+-- the sum outside i64 in the place of a key's row
+abbrev pub wide_sum_at : Transform → List Doc → Key → Option SumRange
+wide_sum_at t docs k = sum_range t.config k (counted t.config t.bound (read_by t docs))
+
+-- the first of these keys that has such a sum, with the sum
+abbrev pub first_wide : Transform → List Doc → List Key → Option SumRange
+first_wide t docs [] = None
+first_wide t docs (k ∷ keys) = or_else (wide_sum_at t docs k) (first_wide t docs keys)
+
+-- the sum for which the next page of a first checkpoint cannot be written
+abbrev pub failure : Transform → List Doc → Option SumRange
+failure t docs = first_wide t docs (keys_next t docs)
+
+-- whether this is a sum that is told
+abbrev pub is_told : Key → List ℕ → ℤ → Option SumRange → Bool
+is_told k name value None = false
+is_told k name value (Some found) = eq_by_cmp key_cmp k found.key && (bytes_eq name found.name && int_eq value found.value)
 
 -- ---- entries
 -- what a test says of a transform, false where it is not there
@@ -206,15 +244,20 @@ test_at test (Some t) = test t
 abbrev pub may_be_finished : List Doc → List Transform → List ℕ → ℕ → Bool
 may_be_finished docs ts id n = test_at (λ t. may_finish t n && has_none_left t docs) (transform_at id ts)
 
+-- whether checkpoint n of a transform may fail with a sum
+abbrev pub may_be_failed : List Doc → List Transform → List ℕ → ℕ → Key → List ℕ → ℤ → Bool
+may_be_failed docs ts id n k name value = test_at (λ t. may_finish t n && is_told k name value (failure t docs)) (transform_at id ts)
+
 -- whether what an entry does may be done at a moment
 abbrev pub may_do : List SourceIndex → List Doc → List Transform → ℤ → Kind → Bool
 may_do indices docs ts at_ms (kind.Index name shards mapping stamp quick) =
     takes_index indices ts (record { name = name; shards = shards; mapping = mapping; stamp = stamp; quick = quick })
-may_do indices docs ts at_ms (kind.Write index shard seq id tree) = takes_document (slice_get indices index) docs (map put_of ts) at_ms index shard seq id tree
-may_do indices docs ts at_ms (kind.Put id config) = takes_transform indices docs ts id config
+may_do indices docs ts at_ms (kind.Write index shard seq id tree) = takes_document (slice_get indices index) docs at_ms index shard seq id tree
+may_do indices docs ts at_ms (kind.Put id config) = takes_transform indices ts id config
 may_do indices docs ts at_ms (kind.Start id) = test_at may_start (transform_at id ts)
 may_do indices docs ts at_ms (kind.Stopped id) = test_at may_stop (transform_at id ts)
 may_do indices docs ts at_ms (kind.Begin id n bound) = test_at (λ t. may_begin t n bound) (transform_at id ts)
 may_do indices docs ts at_ms (kind.Page id n rows) = test_at (λ t. may_page t n rows) (transform_at id ts)
 may_do indices docs ts at_ms (kind.Finish id n) = may_be_finished docs ts id n
+may_do indices docs ts at_ms (kind.Fail id n k name value) = may_be_failed docs ts id n k name value
 may_do indices docs ts at_ms _ = false

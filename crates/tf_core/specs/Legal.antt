@@ -1,5 +1,5 @@
 -- Which entries a core takes after a history: those that are legal, and of the forms that are built.
-use Rattle.std.specs.Prelude.{◌≡◌, ⊤, true, ◌&&◌, List, [], ◌∷◌, reverse}
+use Rattle.std.specs.Prelude.{◌≡◌, ⊤, true, List, [], ◌∷◌, reverse}
 use Rattle.tf_model.specs.declared.entry.Entry.{Entry}
 use Rattle.tf_model.specs.Names.{is_transform_id, is_index_name, is_field_path}
 use Rattle.tf_history.specs.Events.{Event}
@@ -8,9 +8,11 @@ use Rattle.tf_history.specs.Reading.{events}
 use Rattle.tf_mapping.specs.Documents.{values_of}
 use Rattle.tf_mapping.specs.Routes.{shard_of}
 use Rattle.tf_mapping.specs.Written.{is_written}
-use Rattle.tf_core.specs.Built.{is_built, is_built_config, fits_indices}
+use Rattle.tf_config.specs.Refusals.{passes}
+use Rattle.tf_core.specs.Built.{is_built}
+use Rattle.tf_core.specs.Sources.{catalogued}
 
--- what is said of names, ids, configurations and documents, for the forms that are built
+-- what is said of names, ids, configurations and documents
 unfoldable pub reading : Reading
 reading = record {
   values_of = values_of;
@@ -18,7 +20,7 @@ reading = record {
   is_name = is_index_name;
   is_field = is_field_path;
   shard_of = shard_of;
-  is_config = λ indices config. is_built_config config && fits_indices config indices;
+  is_config = λ indices config. passes (catalogued indices) config;
   is_read = λ index moment tree. is_written index.mapping index.stamp moment tree;
 }
 
@@ -29,7 +31,7 @@ read past = events values_of past
 -- an entry that is taken after a past
 pub record IsTaken (past : List Entry) (e : Entry) : Type 0 where
   pub legal : IsLegalEntry reading past e
-  pub built : is_built past e.kind ≡ true
+  pub built : is_built e.kind ≡ true
 
 -- a past in which each entry was taken after those before it
 abbrev pub IsTakenPast : List Entry → Type 0

@@ -1,4 +1,5 @@
 pub mod Built
+pub mod Sources
 pub mod Legal
 pub mod BuiltPast
 pub mod Allowing
@@ -19,4 +20,4 @@ pub mod Moves
 pub mod Lookups
 pub mod Example
 pub mod Texts
-pub mod Suiting
+pub mod Listing

@@ -23,14 +23,6 @@ docs_in history = documents (read (reverse history))
 abbrev pub transforms_in : List Entry → List PutTransform
 transforms_in history = transforms (reverse history)
 
-abbrev pub head_of : {X : Type 0} → List X → Option X
-head_of [] = None
-head_of (x ∷ xs) = Some x
-
--- the transform that was put last, of those that are there
-abbrev pub newest_transform : List Entry → Option PutTransform
-newest_transform history = head_of (transforms_in history)
-
 -- whether a transform's destination has a name
 abbrev pub is_into : List ℕ → PutTransform → Bool
 is_into name p = bytes_eq name p.config.dest

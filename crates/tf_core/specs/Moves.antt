@@ -1,12 +1,11 @@
 -- The entries that the indexer's moves make.
-use Rattle.std.specs.Prelude.{◌≡◌, ℕ, ℤ, pos, int_le, map, take, nat_lt, nat_eq, ◌&&◌, List, [], ◌∷◌, Option, Some, None, if◌then◌else◌}
+use Rattle.std.specs.Prelude.{◌≡◌, ℕ, ℤ, pos, int_le, map, nat_lt, nat_eq, ◌&&◌, List, [], ◌∷◌, Option, Some, None, if◌then◌else◌}
 use Rattle.std.specs.Option.{option_map, option_and_then}
 use Rattle.tf_model.specs.declared.config.Config.{Config}
 use Rattle.tf_model.specs.declared.doc.Doc.{Doc}
 use Rattle.tf_model.specs.declared.entry.Entry.{Entry}
 use Rattle.tf_model.specs.declared.entry.Row.{Row}
 use Rattle.tf_model.specs.declared.value.Key.{Key}
-use Rattle.tf_model.specs.Changed.{changed_above}
 use Rattle.tf_model.specs.Counted.{counted}
 use Rattle.tf_model.specs.Rows.{pivot_row}
 use Rattle.tf_model.specs.declared.entry.Kind.{Kind}
@@ -14,10 +13,13 @@ use Rattle.tf_model.specs.declared.entry.Kind.TheVariants as kind
 use Rattle.tf_history.specs.Events.{Deed}
 use Rattle.tf_history.specs.Events.Deed.{Stopped, Fail, Begin, Page, Finish}
 use Rattle.tf_history.specs.Legality.{next_move, is_started, is_active}
+use Rattle.tf_pivot.specs.Found.{AreRows, IsLeastRange}
 use Rattle.tf_core.specs.declared.moving.What.{What}
 use Rattle.tf_core.specs.declared.moving.What.TheVariants as what
+use Rattle.tf_core.specs.declared.paging.NextPage.{NextPage}
+use Rattle.tf_core.specs.declared.paging.NextPage.TheVariants as next_page
 use Rattle.tf_core.specs.declared.transform.Transform.{Transform}
-use Rattle.tf_core.specs.Allowing.{may_stop}
+use Rattle.tf_core.specs.Allowing.{failure, keys_next, may_stop, read_by}
 use Rattle.tf_model.specs.Conditions.{IsSpan, greatest_date}
 use Rattle.tf_history.specs.Legality.{IsNotBefore}
 use Rattle.tf_core.specs.Legal.{IsTaken, read}
@@ -67,9 +69,25 @@ what_next t =
     else if nat_lt t.finished t.begun && is_active t.state then what.Page
     else what.Nothing
 
--- the rows of the least 500 changed keys above a position, or of all that are left
-abbrev pub IsPage : Config → Option Key → List Doc → List Row → Type 0
-IsPage c position docs rows = map Some rows ≡ map (λ k. pivot_row c k (counted c None docs)) (take 500 (changed_above c None None position docs))
+-- what is made of the keys of a page: the row of each, or the first sum outside i64 of the least that has one
+abbrev pub IsAnswerFor : Config → List Doc → List Key → NextPage → Type 0
+IsAnswerFor c docs keys (next_page.Rows rows) = AreRows c docs keys rows
+IsAnswerFor c docs keys (next_page.Fails found) = IsLeastRange c docs keys found
+
+-- the rows of the next page of a first checkpoint, each over all documents that count
+abbrev pub IsPage : Transform → List Doc → List Row → Type 0
+IsPage t docs rows = map Some rows ≡ map (λ k. pivot_row t.config k (counted t.config t.bound (read_by t docs))) (keys_next t docs)
+
+-- what a checkpoint gets next: a page whose keys all have their rows, or the sum for which it cannot be written
+abbrev pub IsNextPage : Transform → List Doc → NextPage → Type 0
+IsNextPage t docs (next_page.Rows rows) = IsPage t docs rows × (failure t docs ≡ None)
+IsNextPage t docs (next_page.Fails found) = failure t docs ≡ Some found
+
+-- the same as an entry's kind: a Fail, a Finish where there are no rows, else a Page
+abbrev pub kind_by : List ℕ → ℕ → NextPage → Kind
+kind_by id n (next_page.Fails found) = kind.Fail id n found.key found.name found.value
+kind_by id n (next_page.Rows []) = kind.Finish id n
+kind_by id n (next_page.Rows (r ∷ rows)) = kind.Page id n (r ∷ rows)
 
 -- an entry of this kind, made by the indexer at any moment that is not before the last, is taken
 abbrev pub IsTakenAtOnce : List Entry → Kind → Type 0

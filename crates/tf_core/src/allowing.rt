@@ -1,26 +1,29 @@
 // Whether an entry is taken, kind by kind.
-ghost use Rattle.std.specs.Prelude.{◌≡◌, ◌&&◌, IfOk, map, slice_get};
+ghost use Rattle.std.specs.Prelude.{◌≡◌, ◌&&◌, IfOk, slice_get};
 ghost use Rattle.std.specs.List.{AllByRecursion, list_all, list_any};
+ghost use Rattle.std.specs.Cmp.Lexicographic.{slice_cmp};
 ghost use Rattle.std.specs.Option.{option_copied};
+ghost use Rattle.std.specs.Ordering.{is_lt, nat_cmp};
 ghost use Rattle.std.specs.Str.{bytes_eq};
 ghost use Rattle.tf_core.specs.Allowing as spec;
 ghost use Rattle.tf_core.specs.BuiltPast.{HasShard};
 ghost use Rattle.tf_core.specs.Ids.{AreIndexed};
 ghost use Rattle.tf_core.specs.Lookups.{AreNumbered};
+ghost use Rattle.tf_core.specs.Sources.{AreNamedOnce};
 ghost use Rattle.tf_core.specs.Standing.{shared};
-ghost use Rattle.tf_core.specs.Summary.{put_of};
 ghost use Rattle.tf_model.specs.Changed.{is_after as after};
 ghost use Rattle.tf_history.specs.Legality as legality;
 ghost use Rattle.tf_history.specs.LegalEntries as legal;
+ghost use Rattle.tf_mapping.specs.Written.{is_written};
 
-use crate::built::{fits_indices, is_built_config};
-use crate::catalogue::source_numbers;
+use crate::built::is_built_config;
+use crate::catalogue::passes;
 use crate::ids::Ids;
 use crate::index::Index;
 use crate::lookups::{place_in, seq_after};
 use crate::names::is_free;
-use crate::readable::{are_let_in, are_readable};
 use crate::rows::key;
+use crate::table::find;
 use crate::transform::Transform;
 use crate::trees::written_values;
 use std::alloc::Global;
@@ -28,8 +31,8 @@ use std::cmp::Ordering;
 use std::sync::Arc;
 use tf_mapping::route;
 use tf_model::{
-    Agg, Config, Doc, FieldType, Group, Key, List, Mapping, OutOfMemory, Row, Shape, State, Text,
-    Tree, Value, is_field_path, is_index_name, is_transform_id,
+    Agg, Config, Doc, FieldType, Group, Key, Mapping, OutOfMemory, Row, Shape, State, Text, Tree,
+    Value, is_field_path, is_index_name, is_transform_id,
 };
 
 const LEAST_DATE: i64 = -62_167_219_200_000;
@@ -38,6 +41,8 @@ const LEAST_DATE: i64 = -62_167_219_200_000;
 pub const GREATEST_DATE: i64 = 253_402_300_799_999;
 
 const MAX_INDICES: usize = 64;
+
+const MAX_TRANSFORMS: usize = 64;
 
 const MAX_SHARDS: u32 = 16;
 
@@ -75,6 +80,7 @@ pub fn takes_index(
         && shards <= MAX_SHARDS
         && mapping.fields.len() <= MAX_FIELDS
         && are_fields(mapping.fields.as_slice())
+        && ascend(mapping.fields.as_slice())
         && has_stamp(mapping, stamp)
         && !quick
 }
@@ -112,6 +118,35 @@ fn has_date(fields: &[(Text, FieldType)], name: &Text) -> bool
     false
 }
 
+// Whether each field's name is above the one before it.
+fn ascend(fields: &[(Text, FieldType)]) -> bool
+    ensures { result ≡ spec.fields_ascend fields.now }
+{
+    match fields {
+        [] => true,
+        [first, rest @ ..] => ascend_above(&first.0, rest),
+    }
+}
+
+fn ascend_above(name: &Text, fields: &[(Text, FieldType)]) -> bool
+    ensures { result ≡ spec.ascends_above name.now fields.now }
+{
+    let mut last = name;
+    for field in fields {
+        if !is_below(last, &field.0) {
+            return false;
+        }
+        last = &field.0;
+    }
+    true
+}
+
+fn is_below(name: &Text, other: &Text) -> bool
+    ensures { result ≡ is_lt (slice_cmp nat_cmp name.now other.now) }
+{
+    name.cmp(other) == Ordering::Less
+}
+
 fn is_date(kind: FieldType) -> bool
     ensures { result ≡ legal.is_date kind }
 {
@@ -127,7 +162,6 @@ pub fn takes_document(
     ids: &Ids,
     indices: &[Index],
     docs: &[Arc<Doc, Global>],
-    transforms: &[Transform],
     at_ms: i64,
     index: u32,
     shard: u32,
@@ -138,13 +172,11 @@ pub fn takes_document(
     requires shards { AllByRecursion HasShard indices.now }
     requires indexed { AreIndexed ids.now (shared docs.now) }
     requires numbered { AreNumbered (shared docs.now) }
-    ensures { IfOk result (λ takes. takes ≡ spec.takes_document (slice_get indices.now index) (shared docs.now) (map put_of transforms.now) at_ms index shard seq id.now tree.now) }
+    ensures { IfOk result (λ takes. takes ≡ spec.takes_document (slice_get indices.now index) (shared docs.now) at_ms index shard seq id.now tree.now) }
 {
     match indices.get(index as usize) {
         None => Ok(false),
-        Some(found) => takes_in(
-            alloc, ids, found, docs, transforms, at_ms, index, shard, seq, id, tree,
-        ),
+        Some(found) => takes_in(alloc, ids, found, docs, at_ms, index, shard, seq, id, tree),
     }
 }
 
@@ -153,7 +185,6 @@ fn takes_in(
     ids: &Ids,
     found: &Index,
     docs: &[Arc<Doc, Global>],
-    transforms: &[Transform],
     at_ms: i64,
     index: u32,
     shard: u32,
@@ -164,13 +195,20 @@ fn takes_in(
     requires shards { HasShard found.now }
     requires indexed { AreIndexed ids.now (shared docs.now) }
     requires numbered { AreNumbered (shared docs.now) }
-    ensures { IfOk result (λ takes. takes ≡ spec.takes_in found.now (shared docs.now) (map put_of transforms.now) at_ms index shard seq id.now tree.now) }
+    ensures { IfOk result (λ takes. takes ≡ spec.takes_in found.now (shared docs.now) at_ms index shard seq id.now tree.now) }
 {
     if !has_place(ids, found, docs, index, shard, seq, id) {
         return Ok(false);
     }
+    is_kept(alloc, found, at_ms, tree)
+}
+
+// Whether an index keeps a tree that is written at a moment.
+fn is_kept(alloc: Global, found: &Index, at_ms: i64, tree: &Tree) -> Result<bool, OutOfMemory>
+    ensures { IfOk result (λ kept. kept ≡ is_written found.now.mapping found.now.stamp at_ms tree.now) }
+{
     let values = written_values(alloc, found, at_ms, tree)?;
-    Ok(is_let_in(transforms, docs, index, values.as_ref()))
+    Ok(values.is_some())
 }
 
 // Whether a document goes to this place of an index, and its id is new there.
@@ -196,60 +234,39 @@ fn has_place(
         && !is_used(ids, docs, index, id)
 }
 
-fn is_let_in(
-    transforms: &[Transform],
-    docs: &[Arc<Doc, Global>],
-    index: u32,
-    values: Option<&List<(Text, Value)>>,
-) -> bool
-    ensures { result ≡ spec.lets_values_in (map put_of transforms.now) (shared docs.now) index (option_copied values.entry) }
-{
-    match values {
-        Some(values) => are_let_in(transforms, docs, index, values.as_slice()),
-        None => false,
-    }
-}
-
-/// Whether a transform may be put. Want of memory may come where its sources are looked up.
+/// Whether a transform may be put. Want of memory may come where its configuration is checked.
 pub fn takes_transform(
     alloc: Global,
     indices: &[Index],
-    docs: &[Arc<Doc, Global>],
     transforms: &[Transform],
     id: &Text,
     config: &Config,
 ) -> Result<bool, OutOfMemory>
-    ensures { IfOk result (λ takes. takes ≡ spec.takes_transform indices.now (shared docs.now) transforms.now id.now config.now) }
+    requires { AreNamedOnce indices.now }
+    ensures { IfOk result (λ takes. takes ≡ spec.takes_transform indices.now transforms.now id.now config.now) }
 {
-    if !is_well_formed(indices, transforms, id, config) {
-        return Ok(false);
+    if has_names(indices, transforms, id, &config.dest) && is_built_config(config) {
+        passes(alloc, indices, config)
+    } else {
+        Ok(false)
     }
-    let sources = source_numbers(alloc, indices, config.sources.as_slice())?;
-    Ok(are_readable(&config.shape, sources.as_slice(), docs))
 }
 
-fn is_well_formed(indices: &[Index], transforms: &[Transform], id: &Text, config: &Config) -> bool
-    ensures { result ≡ spec.is_well_formed indices.now transforms.now id.now config.now }
+// Whether an id and the name of a destination are in order, and there are fewer than 64 transforms.
+fn has_names(indices: &[Index], transforms: &[Transform], id: &Text, dest: &Text) -> bool
+    ensures { result ≡ spec.has_names indices.now transforms.now id.now dest.now }
 {
     is_transform_id(id.as_str())
-        && is_built_config(config)
-        && fits_indices(config, indices)
-        && is_free(indices, transforms, &config.dest)
-        && transforms.is_empty()
-}
-
-// Whether its checkpoint is finished and it makes no other.
-fn is_over(transform: &Transform) -> bool
-    ensures { result ≡ spec.is_over transform.now }
-{
-    transform.config.sync.is_none() && 0 < transform.finished
+        && find(transforms, id).is_none()
+        && transforms.len() < MAX_TRANSFORMS
+        && is_free(indices, transforms, dest)
 }
 
 /// Whether a transform may be started.
 pub fn may_start(transform: &Transform) -> bool
     ensures { result ≡ spec.may_start transform.now }
 {
-    is_stopped(transform.state) && !is_over(transform)
+    is_stopped(transform.state) && !transform.is_over()
 }
 
 /// Whether a transform may come to its stop.
@@ -258,7 +275,7 @@ pub fn may_stop(transform: &Transform) -> bool
 {
     match transform.state {
         State::Stopping => !transform.waits || !(transform.finished < transform.begun),
-        State::Started => is_over(transform),
+        State::Started => transform.is_over(),
         State::Stopped | State::Indexing | State::Failed => false,
     }
 }

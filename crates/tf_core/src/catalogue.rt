@@ -2,12 +2,15 @@
 ghost use Rattle.std.specs.Prelude.{◌≡◌, ◌++◌, ◌+◌, ◌<◌, ◌^◌, IfOk, slice_get, option_map};
 ghost use Rattle.std.specs.Option.{option_copied};
 ghost use Rattle.tf_history.specs.Catalogue as spec;
+ghost use Rattle.tf_config.specs.Refusals as checks;
 ghost use Rattle.tf_core.specs.Chain.{all_added};
+ghost use Rattle.tf_core.specs.Sources.{AreNamedOnce, catalogued};
 
 use crate::index::Index;
 use crate::ready::{Prepared, Step};
 use std::alloc::Global;
-use tf_model::{List, OutOfMemory, Text};
+use tf_config::{Catalogue, ConfigError, check_config};
+use tf_model::{Config, List, OutOfMemory, Text};
 
 /// The index with a number.
 pub fn index_at<'a>(indices: &'a [Index], steps: &'a [Prepared], at: usize) -> Option<&'a Index>
@@ -57,21 +60,29 @@ pub fn number_in(indices: &[Index], name: &Text) -> Option<u64>
     None
 }
 
-/// The numbers of the indices with these names, of those that are there.
-pub fn source_numbers(
-    alloc: Global,
-    indices: &[Index],
-    names: &[Text],
-) -> Result<List<u64>, OutOfMemory>
-    ensures { IfOk result (λ numbers. numbers ≡ spec.source_numbers indices.now names.now) }
+/// What configurations see of indices.
+pub fn catalogue_of(alloc: Global, indices: &[Index]) -> Result<Catalogue, OutOfMemory>
+    requires { AreNamedOnce indices.now }
+    ensures { IfOk result (λ catalogue. catalogue ≡ catalogued indices.now) }
 {
-    let mut numbers = List::new(alloc);
-    for name in names {
-        if let Some(number) = number_in(indices, name) {
-            numbers.push(number)?;
-        }
+    let mut catalogue = Catalogue::new(alloc);
+    for index in indices {
+        catalogue.add(index.name().copy(alloc)?, index.share_mapping()?)?;
     }
-    Ok(numbers)
+    Ok(catalogue)
+}
+
+/// Whether a configuration passes its checks over these indices.
+pub fn passes(alloc: Global, indices: &[Index], config: &Config) -> Result<bool, OutOfMemory>
+    requires { AreNamedOnce indices.now }
+    ensures { IfOk result (λ passes. passes ≡ checks.passes (catalogued indices.now) config.now) }
+{
+    let catalogue = catalogue_of(alloc, indices)?;
+    match check_config(alloc, config, &catalogue) {
+        Ok(()) => Ok(true),
+        Err(ConfigError::Memory) => Err(OutOfMemory),
+        Err(_) => Ok(false),
+    }
 }
 
 fn number_made(steps: &[Prepared], name: &Text, first: u64) -> Option<u64>

@@ -1,9 +1,11 @@
 // The source indices.
-ghost use Rattle.std.specs.Prelude.{◌≡◌, IfOk, option_map};
+ghost use Rattle.std.specs.Prelude.{◌≡◌, IfOk};
+ghost use Rattle.std.specs.Arc.{arc_value};
 ghost use Rattle.std.specs.Option.{option_copied};
 
 use std::alloc::Global;
 use std::marker::Model;
+use std::sync::Arc;
 use tf_model::{Mapping, OutOfMemory, Text, TryCopy, copy_mapping};
 
 /// A source index.
@@ -11,12 +13,13 @@ use tf_model::{Mapping, OutOfMemory, Text, TryCopy, copy_mapping};
 pub struct Index {
     name: Text,
     shards: u32,
-    mapping: Mapping,
+    mapping: Arc<Mapping, Global>,
     stamp: Option<Text>,
     quick: bool,
 }
 
 impl Model for Index {
+    ghost use Rattle.std.specs.Arc.{arc_value};
     ghost use Rattle.std.specs.Coded.{codes};
     ghost use Rattle.tf_history.specs.Catalogue.{SourceIndex};
 
@@ -24,7 +27,7 @@ impl Model for Index {
 
     ghost coded = { Prim.hlevel codes };
 
-    ghost view = { λ i. record { name = i.name; shards = i.shards; mapping = i.mapping; stamp = i.stamp; quick = i.quick } };
+    ghost view = { λ i. record { name = i.name; shards = i.shards; mapping = arc_value i.mapping; stamp = i.stamp; quick = i.quick } };
 }
 
 impl Index {
@@ -42,7 +45,7 @@ impl Index {
         Ok(Index {
             name: name.copy(alloc)?,
             shards,
-            mapping: copy_mapping(alloc, mapping)?,
+            mapping: Arc::new(alloc, copy_mapping(alloc, mapping)?)?,
             stamp: stamp.try_copy(alloc)?,
             quick,
         })
@@ -67,6 +70,14 @@ impl Index {
         ensures { result.now ≡ self.now.mapping }
     {
         &self.mapping
+    }
+
+    /// The same, shared.
+    pub fn share_mapping(&self) -> Result<Arc<Mapping, Global>, OutOfMemory>
+        ensures { IfOk result (λ shared. arc_value shared ≡ self.now.mapping) }
+    {
+        let shared = Arc::try_clone(&self.mapping)?;
+        Ok(shared)
     }
 
     /// The date field that is set to each document's moment, where there is one.

@@ -1,6 +1,6 @@
 // What is looked up in a core: indices, documents and transforms.
-ghost use Rattle.std.specs.Prelude.{◌≡◌, ◌^◌, ◌||◌, count_by, get_or, not, length, slice_get, reverse, option_map, IfSome, Some, ◌<◌};
-ghost use Rattle.std.specs.List.{list_any, position};
+ghost use Rattle.std.specs.Prelude.{◌≡◌, ◌^◌, ◌||◌, IfOk, count_by, get_or, not, length, slice_get, reverse, option_map, IfSome, Some, ◌<◌};
+ghost use Rattle.std.specs.List.{find as find_doc, list_any, position};
 ghost use Rattle.std.specs.Option.{option_copied};
 ghost use Rattle.std.specs.Arc.{arc_value};
 ghost use Rattle.std.specs.Str.{bytes_eq};
@@ -11,12 +11,13 @@ ghost use Rattle.tf_history.specs.Transforms.{transform_of};
 ghost use Rattle.tf_core.specs.Held.{life_in};
 ghost use Rattle.tf_core.specs.Ids.{AreIndexed};
 ghost use Rattle.tf_core.specs.Lookups as spec;
-ghost use Rattle.tf_core.specs.Lookups.{AreNumbered, docs_in, indices_in, some_has};
+ghost use Rattle.tf_core.specs.Lookups.{AreNumbered, docs_in, indices_in, some_has, transforms_in};
+ghost use Rattle.tf_core.specs.Sources.{catalogued};
 ghost use Rattle.tf_core.specs.Standing.{shared};
 ghost use Rattle.tf_core.specs.Summary.{put_of};
 ghost use Rattle.tf_core.specs.Table.{Tells};
 
-use crate::catalogue::number_in;
+use crate::catalogue::{catalogue_of, number_in};
 use crate::ids::Ids;
 use crate::index::Index;
 use crate::state::Core;
@@ -24,7 +25,8 @@ use crate::table::find;
 use crate::transform::Transform;
 use std::alloc::Global;
 use std::sync::Arc;
-use tf_model::{Doc, Text};
+use tf_config::Catalogue;
+use tf_model::{Doc, OutOfMemory, Text};
 
 impl Core {
     /// How many documents were written.
@@ -49,12 +51,25 @@ impl Core {
         self.indices.get(number as usize)
     }
 
-    /// The transform that was put last.
-    pub fn newest_transform(&self) -> Option<&Transform>
-        ensures put { option_map put_of (option_copied result) ≡ spec.newest_transform self.now.history }
-        ensures life { IfSome result (λ t. Tells (docs_in self.now.history) (Some t.now) (life_in t.now.id self.now.history)) }
+    /// How many indices there are.
+    pub fn index_count(&self) -> u64
+        ensures { result ≡ length (indices_in self.now.history) }
     {
-        newest(self.transforms.as_slice())
+        self.indices.len() as u64
+    }
+
+    /// The indices as configurations see them, in the order of their numbers. Mappings are shared.
+    pub fn catalogue(&self) -> Result<Catalogue, OutOfMemory>
+        ensures { IfOk result (λ catalogue. catalogue ≡ catalogued (indices_in self.now.history)) }
+    {
+        catalogue_of(self.alloc, self.indices.as_slice())
+    }
+
+    /// How many transforms there are.
+    pub fn transform_count(&self) -> u64
+        ensures { result ≡ length (transforms_in self.now.history) }
+    {
+        self.transforms.len() as u64
     }
 
     /// The transform with an id.
@@ -74,21 +89,40 @@ impl Core {
 }
 
 impl Core {
+    /// The document with an id in an index. Looks at no other document.
+    pub fn document(&self, index: u32, id: &Text) -> Option<&Doc>
+        ensures { option_copied result ≡ find_doc (has_id index id.now) (docs_in self.now.history) }
+    {
+        found_doc(&self.ids, self.docs.as_slice(), index, id)
+    }
+}
+
+fn found_doc<'a>(ids: &Ids, docs: &'a [Arc<Doc, Global>], index: u32, id: &Text) -> Option<&'a Doc>
+    requires { AreIndexed ids.now (shared docs.now) }
+    ensures { option_copied result ≡ find_doc (has_id index id.now) (shared docs.now) }
+{
+    match place_in(ids, docs, index, id) {
+        None => None,
+        Some(place) => doc_behind(docs, place),
+    }
+}
+
+fn doc_behind(docs: &[Arc<Doc, Global>], place: u64) -> Option<&Doc>
+    ensures { option_copied result ≡ slice_get (shared docs.now) place }
+{
+    match docs.get(place as usize) {
+        Some(doc) => Some(doc),
+        None => None,
+    }
+}
+
+impl Core {
     /// How many documents a shard of an index has: the sequence number of its next one. Looks at the documents that were
     /// written after the shard's last one.
     pub fn next_seq(&self, index: u32, shard: u32) -> u64
         ensures { result ≡ spec.shard_count index shard self.now.history }
     {
         seq_after(self.docs.as_slice(), index, shard)
-    }
-}
-
-fn newest(transforms: &[Transform]) -> Option<&Transform>
-    ensures { option_copied result ≡ spec.head_of transforms.now }
-{
-    match transforms {
-        [] => None,
-        [newest, ..] => Some(newest),
     }
 }
 

@@ -1,5 +1,5 @@
 // The indexer's next move.
-ghost use Rattle.std.specs.Prelude.{◌≡◌, ℤ, IfOk, IfSome, Some, reverse};
+ghost use Rattle.std.specs.Prelude.{◌≡◌, ◌<◌, ◌^◌, ℤ, IfOk, IfSome, Some, length, reverse};
 ghost use Rattle.std.specs.Option.{option_and_then, option_map};
 ghost use Rattle.tf_history.specs.Legality.{next_move};
 ghost use Rattle.tf_core.specs.declared.moving.What.TheVariants as what;
@@ -9,14 +9,15 @@ ghost use Rattle.tf_core.specs.Moves as spec;
 ghost use Rattle.tf_core.specs.Moves.{IsTakenAtOnce, kind_of, moment_after};
 ghost use Rattle.std.specs.List.{AllByRecursion};
 ghost use Rattle.tf_history.specs.Lives.{documents};
+ghost use Rattle.tf_history.specs.Transforms.{transforms as puts};
 ghost use Rattle.tf_core.specs.Standing.{Stands, shared};
-ghost use Rattle.tf_core.specs.Texts.{HasShortRows, HasTexts, IsShort};
+ghost use Rattle.tf_core.specs.Texts.{HasTexts, IsShort, IsShortConfig, IsShortKind, IsShortPut};
 ghost use Rattle.tf_core.specs.Table.{transform_at};
 
 use crate::allowing::{GREATEST_DATE, is_active, is_started, may_stop};
 use crate::index::Index;
 use crate::kept::Kept;
-use crate::paging::next_rows;
+use crate::paging::{NextPage, next_page};
 use crate::state::Core;
 use crate::table::find;
 use crate::taking::last_moment;
@@ -34,7 +35,7 @@ pub enum What {
     Stopped,
     /// A checkpoint begins.
     Begin,
-    /// The running checkpoint gets a page, or is finished.
+    /// The running checkpoint gets a page, is finished or fails.
     Page,
     /// There is none.
     Nothing,
@@ -69,7 +70,7 @@ pub fn next_kind(
     requires found { transform_at id.now transforms.now ≡ Some found.now }
     ensures next { IfOk result (λ kind. (moment : ℤ) → kind ≡ option_and_then kind_of (next_move id.now (read (past_in entries.now)) moment)) }
     ensures taken { IfOk result (λ kind. IfSome kind (IsTakenAtOnce (past_in entries.now))) }
-    ensures short { AllByRecursion (HasTexts IsShort) (shared docs.now) → IfOk result (λ kind. IfSome kind HasShortRows) }
+    ensures short { AllByRecursion (HasTexts IsShort) (shared docs.now) → IsShortConfig found.now.config → IfOk result (λ kind. IfSome kind IsShortKind) }
 {
     match what_next(found) {
         What::Stopped => Ok(Some(Kind::Stopped {
@@ -88,7 +89,7 @@ pub fn next_kind(
     }
 }
 
-// The next page of the running checkpoint, or its finish where no changed key is above the position.
+// The next page of the running checkpoint, its finish where no changed key is above the position, or its failure.
 fn page_kind(
     alloc: Global,
     entries: &[Kept],
@@ -101,20 +102,35 @@ fn page_kind(
     requires stands { Stands (past_in entries.now) indices.now (shared docs.now) transforms.now }
     requires found { transform_at id.now transforms.now ≡ Some found.now }
     requires page { spec.what_next found.now ≡ what.Page }
+    requires few { length docs.now < 2 ^ 63 }
     ensures next { IfOk result (λ kind. (moment : ℤ) → Some kind ≡ option_and_then kind_of (next_move id.now (read (past_in entries.now)) moment)) }
     ensures taken { IfOk result (IsTakenAtOnce (past_in entries.now)) }
-    ensures short { AllByRecursion (HasTexts IsShort) (shared docs.now) → IfOk result HasShortRows }
+    ensures short { AllByRecursion (HasTexts IsShort) (shared docs.now) → IsShortConfig found.now.config → IfOk result IsShortKind }
 {
-    let rows = next_rows(alloc, found, docs)?;
+    let page = next_page(alloc, found, docs)?;
     let id = id.copy(alloc)?;
-    if rows.is_empty() {
-        Ok(Kind::Finish { id, n: found.begun })
-    } else {
-        Ok(Kind::Page {
+    Ok(kind_by(id, found.begun, page))
+}
+
+// What a checkpoint gets next, as an entry's kind.
+fn kind_by(id: Text, n: u64, page: NextPage) -> Kind
+    ensures { result ≡ spec.kind_by id n page }
+{
+    match page {
+        NextPage::Fails(sum) => Kind::Fail {
             id,
-            n: found.begun,
-            rows,
-        })
+            n,
+            key: sum.key,
+            name: sum.name,
+            value: sum.value,
+        },
+        NextPage::Rows(rows) => {
+            if rows.is_empty() {
+                Kind::Finish { id, n }
+            } else {
+                Kind::Page { id, n, rows }
+            }
+        }
     }
 }
 
@@ -128,11 +144,12 @@ impl Core {
     }
 
     /// The entry of the next move of a transform at the moment that a given one makes, none where it has none. The entry is
-    /// taken next. Where the texts of documents have lengths that fit four bytes, so have those of a page's rows.
+    /// taken next. Where the texts of documents and the names of aggregations have lengths that fit four bytes, so have those
+    /// of the entry.
     pub fn next_entry(&self, id: &Text, now: i64) -> Result<Option<Entry>, OutOfMemory>
         ensures next { IfOk result (λ entry. entry ≡ spec.move id.now (reverse self.now.history) (moment_after (reverse self.now.history) now)) }
         ensures taken { IfOk result (λ entry. IfSome entry (IsTaken (reverse self.now.history))) }
-        ensures short { AllByRecursion (HasTexts IsShort) (documents (read (reverse self.now.history))) → IfOk result (λ entry. IfSome entry (λ e. HasShortRows e.kind)) }
+        ensures short { AllByRecursion (HasTexts IsShort) (documents (read (reverse self.now.history))) → AllByRecursion IsShortPut (puts (reverse self.now.history)) → IfOk result (λ entry. IfSome entry (λ e. IsShortKind e.kind)) }
     {
         let entries = self.entries.as_slice();
         let indices = self.indices.as_slice();
@@ -162,7 +179,7 @@ fn next_of(
     requires found { transform_at id.now transforms.now ≡ Some found.now }
     ensures next { IfOk result (λ entry. entry ≡ spec.move id.now (past_in entries.now) (moment_after (past_in entries.now) now)) }
     ensures taken { IfOk result (λ entry. IfSome entry (IsTaken (past_in entries.now))) }
-    ensures short { AllByRecursion (HasTexts IsShort) (shared docs.now) → IfOk result (λ entry. IfSome entry (λ e. HasShortRows e.kind)) }
+    ensures short { AllByRecursion (HasTexts IsShort) (shared docs.now) → AllByRecursion IsShortPut (puts (past_in entries.now)) → IfOk result (λ entry. IfSome entry (λ e. IsShortKind e.kind)) }
 {
     let kind = next_kind(alloc, entries, indices, docs, transforms, id, found)?;
     Ok(entry_of(moment_of(entries, now), kind))

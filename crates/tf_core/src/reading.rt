@@ -5,8 +5,8 @@ ghost use Rattle.std.specs.Option.{option_copied};
 ghost use Rattle.tf_model.specs.Changed.{changed_above};
 ghost use Rattle.tf_model.specs.Conditions.{AllFit, IsInRange};
 ghost use Rattle.tf_reader.specs.Places.{documents};
-ghost use Rattle.tf_core.specs.Allowing.{has_none_left, read_by};
-ghost use Rattle.tf_core.specs.Built.{is_among as among, is_empty};
+ghost use Rattle.tf_core.specs.Allowing.{has_none_left, is_empty, read_by};
+ghost use Rattle.tf_core.specs.Sources.{is_among as among};
 ghost use Rattle.tf_core.specs.Standing.{shared};
 
 use crate::late::is_among;
@@ -20,6 +20,9 @@ use tf_page::changed_after;
 use tf_reader::Reader;
 use tf_segment::Run;
 
+// How many documents are read at most.
+const MOST_DOCS: usize = 1 << 31;
+
 /// A reader of the documents that the newest checkpoint of a transform reads.
 pub fn reader_of(
     alloc: Global,
@@ -27,10 +30,19 @@ pub fn reader_of(
     docs: &[Arc<Doc, Global>],
 ) -> Result<Reader, OutOfMemory>
     requires within { transform.now.read ≤ length docs.now }
-    requires few { length (read_by transform.now (shared docs.now)) ≤ 500 }
     ensures { IfOk result (λ reader. documents reader ≡ read_by transform.now (shared docs.now)) }
 {
     let docs = docs_in(alloc, transform.sources.as_slice(), docs, transform.read)?;
+    reader_over(alloc, docs)
+}
+
+// The reader of shared documents. More of them than a run can have are too many for the memory.
+fn reader_over(alloc: Global, docs: List<Arc<Doc, Global>>) -> Result<Reader, OutOfMemory>
+    ensures { IfOk result (λ reader. documents reader ≡ map (λ doc. arc_value doc) docs) }
+{
+    if MOST_DOCS < docs.len() {
+        return Err(OutOfMemory);
+    }
     let mut runs = List::new(alloc);
     runs.push(Run::new(docs))?;
     Ok(Reader::new(runs))
@@ -74,7 +86,6 @@ pub fn none_left(
 ) -> Result<bool, OutOfMemory>
     requires config { IsInRange transform.now.config }
     requires within { transform.now.read ≤ length docs.now }
-    requires few { length (read_by transform.now (shared docs.now)) ≤ 500 }
     requires fit { AllFit transform.now.config (read_by transform.now (shared docs.now)) }
     ensures { IfOk result (λ none. none ≡ has_none_left transform.now (shared docs.now)) }
 {

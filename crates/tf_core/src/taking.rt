@@ -1,6 +1,6 @@
 // Which entries are taken.
 ghost use Rattle.std.specs.Prelude.{◌≡◌, ◌↔◌, IfOk, true, reverse};
-ghost use Rattle.tf_core.specs.Allowing.{is_timely as timely, may_be_finished as finished_spec, may_do as spec};
+ghost use Rattle.tf_core.specs.Allowing.{is_timely as timely, may_be_failed as failed_spec, may_be_finished as finished_spec, may_do as spec};
 ghost use Rattle.tf_core.specs.Held.{last_ms_of};
 ghost use Rattle.tf_core.specs.Ids.{AreIndexed};
 ghost use Rattle.tf_core.specs.Kept.{history_in, past_in};
@@ -14,18 +14,19 @@ use crate::allowing::{
 use crate::ids::Ids;
 use crate::index::Index;
 use crate::kept::{Kept, moment};
+use crate::paging::fails_with;
 use crate::reading::none_left;
 use crate::state::Core;
 use crate::table::find;
 use crate::transform::Transform;
 use std::alloc::Global;
 use std::sync::Arc;
-use tf_model::{Doc, Entry, Kind, OutOfMemory, Text};
+use tf_model::{Doc, Entry, Key, Kind, OutOfMemory, Text};
 
 impl Core {
     /// Whether an entry is taken next: it is legal after the history, and of a form that is built. Want of memory may come
-    /// for a Write, whose tree is read, for a Put, whose sources are looked up, and for a Finish, whose documents are gone
-    /// over.
+    /// for a Write, whose tree is read, for a Put, whose configuration is checked, and for a Finish and a Fail, for which the
+    /// documents of the checkpoint are gone over.
     pub fn allowed(&self, entry: &Entry) -> Result<bool, OutOfMemory>
         ensures { IfOk result (λ taken. (taken ≡ true) ↔ IsTaken (reverse self.now.history) entry.now) }
     {
@@ -115,9 +116,9 @@ fn may_do(
             id,
             tree,
         } => takes_document(
-            alloc, ids, indices, docs, transforms, at_ms, *index, *shard, *seq, id, tree,
+            alloc, ids, indices, docs, at_ms, *index, *shard, *seq, id, tree,
         ),
-        Kind::Put { id, config } => takes_transform(alloc, indices, docs, transforms, id, config),
+        Kind::Put { id, config } => takes_transform(alloc, indices, transforms, id, config),
         Kind::Start { id } => Ok(find(transforms, id).is_some_and(|found| may_start(found))),
         Kind::Stopped { id } => Ok(find(transforms, id).is_some_and(|found| may_stop(found))),
         Kind::Begin { id, n, bound } => {
@@ -129,11 +130,17 @@ fn may_do(
         Kind::Finish { id, n } => may_be_finished(
             alloc, entries, indices, docs, transforms, id, *n,
         ),
-        Kind::Delete { .. }
-        | Kind::StopAsked { .. }
-        | Kind::Schedule { .. }
-        | Kind::Fail { .. }
-        | Kind::Reset { .. } => Ok(false),
+        Kind::Fail {
+            id,
+            n,
+            key,
+            name,
+            value,
+        } => may_be_failed(
+            alloc, entries, indices, docs, transforms, id, *n, key, name, *value,
+        ),
+        Kind::Delete { .. } | Kind::StopAsked { .. } | Kind::Schedule { .. } | Kind::Reset { .. } =>
+            Ok(false),
     }
 }
 
@@ -151,6 +158,27 @@ fn may_be_finished(
 {
     match find(transforms, id) {
         Some(found) if may_finish(found, n) => none_left(alloc, found, docs),
+        _ => Ok(false),
+    }
+}
+
+fn may_be_failed(
+    alloc: Global,
+    entries: &[Kept],
+    indices: &[Index],
+    docs: &[Arc<Doc, Global>],
+    transforms: &[Transform],
+    id: &Text,
+    n: u64,
+    key: &Key,
+    name: &Text,
+    value: i128,
+) -> Result<bool, OutOfMemory>
+    requires { Stands (past_in entries.now) indices.now (shared docs.now) transforms.now }
+    ensures { IfOk result (λ may. may ≡ failed_spec (shared docs.now) transforms.now id.now n key.now name.now value) }
+{
+    match find(transforms, id) {
+        Some(found) if may_finish(found, n) => fails_with(alloc, found, docs, key, name, value),
         _ => Ok(false),
     }
 }

@@ -1,5 +1,6 @@
 // What is kept of a transform's life.
 ghost use Rattle.std.specs.Prelude.{◌≡◌, ◌+◌, ◌<◌, ◌≤◌, ◌^◌, length, vec_len, vec_capacity, nat_lt};
+ghost use Rattle.tf_core.specs.Allowing as allowing;
 ghost use Rattle.tf_core.specs.Places.{AreAscending};
 ghost use Rattle.tf_core.specs.Steps.{Changed, started};
 ghost use Rattle.tf_core.specs.declared.ready.Change.TheVariants as change;
@@ -49,6 +50,13 @@ pub struct Transform {
 }
 
 impl Transform {
+    /// Whether its checkpoint is finished and it makes no other.
+    pub fn is_over(&self) -> bool
+        ensures { result ≡ allowing.is_over self.now }
+    {
+        self.config.sync.is_none() && 0 < self.finished
+    }
+
     /// Starts it. Takes no memory, as all that follow.
     pub fn start(&mut self)
         ensures { Changed 0 change.Start self.old self.new }

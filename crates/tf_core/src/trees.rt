@@ -3,9 +3,9 @@ ghost use Rattle.std.specs.Prelude.{◌≡◌, IfOk};
 ghost use Rattle.std.specs.Option.{option_copied};
 ghost use Rattle.tf_core.specs.Allowing as spec;
 ghost use Rattle.tf_mapping.specs.Written as tree_spec;
+ghost use Rattle.tf_model.specs.Values.{value_at as found_at};
 
 use crate::index::Index;
-use crate::readable::value_at;
 use std::alloc::Global;
 use tf_mapping::{DocError, read_doc};
 use tf_model::{List, Mapping, OutOfMemory, Text, Tree, Value};
@@ -88,4 +88,16 @@ fn is_moment(at_ms: i64, value: Option<&Value>) -> bool
         Some(Value::Date(found)) => *found == at_ms,
         _ => false,
     }
+}
+
+// The value beside the first such name.
+fn value_at<'a>(values: &'a [(Text, Value)], name: &Text) -> Option<&'a Value>
+    ensures { option_copied result ≡ found_at values.now name.now }
+{
+    for (field, value) in values {
+        if field == name {
+            return Some(value);
+        }
+    }
+    None
 }

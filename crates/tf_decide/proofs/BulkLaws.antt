@@ -1,13 +1,13 @@
 -- Documents of a bulk, as they are tried one after the other.
-use Rattle.std.proofs.Common.{◌≡◌, ℕ, zero, suc, ◌+◌, ◌<◌, ◌^◌, ℤ, Bool, true, false, cond, ◌&&◌, List, [], ◌∷◌, ◌++◌, inl, inr, drop, length, map, Option, Some, None, arith, refl, sym, ap, ◌∙◌, subst, append_assoc, append-nil, length-append}
+use Rattle.std.proofs.Common.{◌≡◌, ℕ, zero, suc, ◌+◌, ◌<◌, ◌^◌, ℤ, Bool, true, false, cond, ◌&&◌, List, [], ◌∷◌, ◌++◌, drop, length, map, Option, Some, None, arith, refl, sym, ap, ◌∙◌, subst, append_assoc, append-nil}
 use Rattle.std.specs.Prelude.{Result, Ok, Err, int_le, nat_eq, option_map, slice_get, slice_set, count_by}
 use Rattle.std.specs.BTreeMap.{get}
 use Rattle.std.specs.Cmp.Lexicographic.{slice_cmp}
-use Rattle.std.specs.List.{AllByRecursion, find, list_all}
+use Rattle.std.specs.List.{AllByRecursion, find}
 use Rattle.std.specs.Ordering.{nat_cmp}
 use Rattle.std.specs.Str.{bytes_eq}
 use Rattle.std.specs.Cmp.Derive.{both_true}
-use Rattle.std.proofs.lemmas.Bool.{cases_lt, eqb-true}
+use Rattle.std.proofs.lemmas.Bool.{eqb-true}
 use Rattle.std.proofs.lemmas.Slice.Eq.{bytes_eq-Decides}
 use Rattle.std.proofs.lemmas.List.{reverse-append}
 use Rattle.std.proofs.lemmas.List.Sums.{sum_by-append}
@@ -15,41 +15,30 @@ use Rattle.tf_model.specs.declared.doc.Doc.{Doc}
 use Rattle.tf_model.specs.declared.entry.Entry.{Entry}
 use Rattle.tf_model.specs.declared.entry.Kind.TheVariants as kind
 use Rattle.tf_model.specs.declared.tree.Tree.{Tree}
-use Rattle.tf_model.specs.declared.value.Value.{Value}
 use Rattle.tf_reply.specs.declared.faults.Refusal.{Refusal}
 use Rattle.tf_reply.specs.declared.replies.Item.{Item}
 use Rattle.tf_history.specs.Catalogue.{SourceIndex, catalogue, makes, written_doc}
 use Rattle.tf_history.specs.LegalEntries.{has_id, is_in_shard}
 use Rattle.tf_history.specs.Lives.{documents as written, writes}
 use Rattle.tf_history.specs.Reading.{deed_of}
-use Rattle.tf_history.specs.Transforms.{transforms, transforms_after}
 use Rattle.tf_mapping.specs.Documents.{reading, values_of}
 use Rattle.tf_mapping.specs.Routes.{shard_of}
-use Rattle.tf_mapping.specs.Written.{is_written}
-use Rattle.tf_core.specs.Built.{lets_in}
 use Rattle.tf_core.specs.Legal.{read}
 use Rattle.tf_core.specs.Moves.{clamped, last_ms_in, later, moment_after}
-use Rattle.tf_core.specs.Suiting.{AreIn}
-use Rattle.tf_core.proofs.Beside.{more_behind}
 use Rattle.tf_decide.specs.declared.batch.Batch.{Batch}
-use Rattle.tf_decide.specs.Asking.{accepted, asked_document, asked_documents, document_by, is_let_in, item_of, kept_tree, next_seq, place_of, placed_by, write_after}
+use Rattle.tf_decide.specs.Asking.{accepted, asked_document, asked_documents, document_by, item_of, kept_tree, next_seq, place_of, placed_by, write_after}
 use Rattle.tf_event.specs.Entries.{FitsEntry}
 use Rattle.tf_event.specs.declared.grammar.Grammar.TheVariants.{First}
 use Rattle.std.proofs.lemmas.Option.{slice_get_within}
-use Rattle.tf_decide.specs.Asking as asking
 use Rattle.tf_decide.specs.Bulk.{AreCounts, AreOf, Grows, IsAdded, IsBatch, IsPlaced, IsTried, added, count_or, next_tried, past_with, place_among, place_or}
 use Rattle.tf_decide.specs.Ready.{IsReadyDocument}
 use Rattle.tf_decide.proofs.AskedTaken.{passed}
-use Rattle.tf_decide.specs.Documents.{document_tried, fits_after, fits_by}
+use Rattle.tf_decide.specs.Documents.{document_tried}
 
 -- ---- lists
 drop_front : {X : Type 0} (xs ys : List X) → drop (length xs) (xs ++ ys) ≡ ys
 drop_front [] ys = refl
 drop_front (x ∷ xs) ys = drop_front xs ys
-
-drop_all : {X : Type 0} (xs : List X) → drop (length xs) xs ≡ []
-drop_all [] = refl
-drop_all (x ∷ xs) = drop_all xs
 
 itself : (n : ℕ) → nat_eq n n ≡ true
 itself n = grind arith
@@ -70,30 +59,6 @@ second_none : (a b : Option (ℕ × ℕ)) → place_or a b ≡ None → b ≡ No
 second_none None b e = e
 second_none (Some place) b e = absurd (let z : ◌≡◌ {A = Option (ℕ × ℕ)} None (Some place) = sym e in cc)
 
--- ---- nothing is tried yet
-first_grows : (past : List Entry) (given : ℤ) (index : ℕ) → Grows past past given index
-first_grows past given index =
-    let none = drop_all (written (read past)) in
-    record {
-      indices = refl;
-      puts = refl;
-      moment = refl;
-      docs = sym (ap (λ ds. written (read past) ++ ds) none ∙ append-nil (written (read past)));
-      inside = subst (AreIn index) (sym none) tt;
-    }
-
-pub first_batch : (past : List Entry) (given : ℤ) (index : ℕ) (s : SourceIndex) (b : Batch) → b.entries ≡ [] → ((id : List ℕ) → get (slice_cmp nat_cmp) b.places id ≡ None)
-    → AreCounts past index s.shards b.counts → IsBatch past given index s b
-first_batch past given index s b none empty counts =
-    let now : past ≡ past_with past b.entries = ap (past_with past) (sym none) in
-    let nothing : added past (past_with past b.entries) ≡ [] = ap (added past) (sym now) ∙ drop_all (written (read past)) in
-    record {
-      grows = subst (λ n. Grows past n given index) now (first_grows past given index);
-      count = ap length nothing ∙ ap length (sym none);
-      placed = λ id. empty id ∙ ap (λ docs. place_among docs index id) (sym nothing);
-      counted = subst (λ n. AreCounts n index s.shards b.counts) now counts;
-    }
-
 -- ---- the next document
 find_more : (P : Doc → Bool) (xs ys : List Doc) → option_map place_of (find P (xs ++ ys)) ≡ place_or (option_map place_of (find P xs)) (option_map place_of (find P ys))
 find_more P [] ys = refl
@@ -101,31 +66,18 @@ find_more P (x ∷ xs) ys =
     elim (P x) as (λ b. option_map place_of (cond b (Some x) (find P (xs ++ ys))) ≡ place_or (option_map place_of (cond b (Some x) (find P xs))) (option_map place_of (find P ys)))
     [ true ↦ refl | false ↦ find_more P xs ys ]
 
-module _ (past now : List Entry) (given : ℤ) (index : ℕ) (s : SourceIndex) (g : Grows past now given index) where
+module _ (past now : List Entry) (given : ℤ) (index : ℕ) (s : SourceIndex) (g : Grows past now given) where
   pub place_now : (id : List ℕ) → place_or (place_among (written (read past)) index id) (place_among (added past now) index id) ≡ option_map place_of (find (has_id index id) (written (read now)))
   place_now id = sym (find_more (has_id index id) (written (read past)) (added past now)) ∙ ap (λ docs. option_map place_of (find (has_id index id) docs)) (sym g.docs)
 
-  fits_values : (b : Bool) (values : List (List ℕ × Value)) → fits_by (written (read past)) (transforms past) (length (added past now)) index (cond b (Some values) None)
-      ≡ (b && list_all (lets_in (written (read now)) index values) (transforms now))
-  fits_values false values = refl
-  fits_values true values =
-      (λ i. list_all (λ p. more_behind (written (read past)) (added past now) index values p g.inside i) (transforms past))
-      ∙ (λ i. list_all (lets_in (sym g.docs i) index values) (sym g.puts i))
-
-  fits_now : (tree : Tree) → fits_after past given (length (added past now)) index s tree ≡ is_let_in now given index s tree
-  fits_now tree =
-      fits_values (is_written s.mapping s.stamp (moment_after past given) tree) (values_of s.mapping s.stamp tree)
-      ∙ ap (λ ms. is_written s.mapping s.stamp ms tree && list_all (lets_in (written (read now)) index (values_of s.mapping s.stamp tree)) (transforms now)) (sym g.moment)
-
-  pub tried_now : (actor more : ℕ) (id : List ℕ) (doc : Tree) (shard : ℕ) (place : Option (ℕ × ℕ)) (seq : ℕ) → more ≡ length (added past now) → shard ≡ shard_of id s.shards
+  pub tried_now : (actor : ℕ) (id : List ℕ) (doc : Tree) (shard : ℕ) (place : Option (ℕ × ℕ)) (seq : ℕ) → shard ≡ shard_of id s.shards
       → place ≡ option_map place_of (find (has_id index id) (written (read now))) → seq ≡ next_seq now index shard
-      → document_tried past actor given more index s shard place seq id doc ≡ asked_document now actor given index s id doc
-  tried_now actor more id doc shard place seq more_is shard_is place_is seq_is =
-      (λ i. document_tried past actor given (more_is i) index s shard (place_is i) (seq_is i) id doc)
+      → document_tried past actor given index s shard place seq id doc ≡ asked_document now actor given index s id doc
+  tried_now actor id doc shard place seq shard_is place_is seq_is =
+      (λ i. document_tried past actor given index s shard (place_is i) (seq_is i) id doc)
       ∙ ((λ i. document_by id (reading s.mapping s.stamp doc) (option_map place_of (find (has_id index id) (written (read now)))) (next_seq now index (shard_is i))
-      (fits_now (kept_tree s.stamp (moment_after past given) doc) i) (write_after past actor given index s (shard_is i) (next_seq now index (shard_is i)) id doc))
+      (write_after past actor given index s (shard_is i) (next_seq now index (shard_is i)) id doc))
       ∙ (λ i. document_by id (reading s.mapping s.stamp doc) (option_map place_of (find (has_id index id) (written (read now)))) (next_seq now index (shard_of id s.shards))
-      (is_let_in now given index s (kept_tree s.stamp (sym g.moment i) doc))
       (record {
         at_ms = sym g.moment i;
         actor = actor;
@@ -158,21 +110,12 @@ module _ (past now : List Entry) (given : ℤ) (index : ℕ) (s : SourceIndex) (
     added_now : added past (e ∷ now) ≡ added past now ++ wrote ∷ []
     added_now = ap (drop (length (written (read past)))) whole_now ∙ drop_front (written (read past)) (added past now ++ wrote ∷ [])
 
-    both_in : (xs ys : List Doc) → AreIn index xs → AreIn index ys → AreIn index (xs ++ ys)
-    both_in [] ys h k = k
-    both_in (x ∷ xs) ys h k = (h.0, both_in xs ys h.1 k)
-
-    grows_now : Grows past (e ∷ now) given index
+    grows_now : Grows past (e ∷ now) given
     grows_now = record {
       indices = (λ i. catalogue now ++ makes (kind_is i)) ∙ (append-nil (catalogue now) ∙ g.indices);
-      puts = (λ i. transforms_after (catalogue now) (kind_is i) (transforms now)) ∙ g.puts;
       moment = ap (λ ms. later ms (clamped given)) moment_is ∙ (later_again (last_ms_in now) (clamped given) ∙ g.moment);
       docs = whole_now ∙ ap (λ docs. written (read past) ++ docs) (sym added_now);
-      inside = subst (AreIn index) (sym added_now) (both_in (added past now) (wrote ∷ []) g.inside (refl, tt));
     }
-
-    longer_now : length (added past (e ∷ now)) ≡ length (added past now) + 1
-    longer_now = ap length added_now ∙ length-append (added past now) (wrote ∷ [])
 
     place_or_none : (o : Option (ℕ × ℕ)) → place_or o None ≡ o
     place_or_none None = refl
@@ -233,8 +176,7 @@ accepted_batch : (past : List Entry) (actor : ℕ) (given : ℤ) (index : ℕ) (
     → new.counts ≡ slice_set b.counts shard (seq + 1) → IsBatch past given index s new
 accepted_batch past actor given index s b new id doc e shard seq h is shard_is seq_is within entries places counts =
     let now = past_with past b.entries in
-    let p = passed id (reading s.mapping s.stamp doc) (option_map place_of (find (has_id index id) (written (read now)))) (next_seq now index (shard_of id s.shards))
-    (is_let_in now given index s (kept_tree s.stamp (moment_after now given) doc)) (write_after now actor given index s (shard_of id s.shards) (next_seq now index (shard_of id s.shards)) id doc) e is in
+    let p = passed id (reading s.mapping s.stamp doc) (option_map place_of (find (has_id index id) (written (read now)))) (next_seq now index (shard_of id s.shards)) (write_after now actor given index s (shard_of id s.shards) (next_seq now index (shard_of id s.shards)) id doc) e is in
     let tree = kept_tree s.stamp (moment_after now given) doc in
     let moment_is : e.at_ms ≡ moment_after now given = ap (λ (x : Entry). x.at_ms) (sym p.is) in
     let kind_is : e.kind ≡ kind.Write index shard seq id tree =
@@ -244,10 +186,7 @@ accepted_batch past actor given index s b new id doc e shard seq h is shard_is s
     let grows = grows_now past now given index s h.grows e shard seq id tree moment_is kind_is in
     let new_id : place_among (added past now) index id ≡ None = second_none _ _ (place_now past now given index s h.grows id ∙ p.new) in
     record {
-      grows = subst (λ n. Grows past n given index) next grows;
-      count = subst (λ n. length (added past n) ≡ length new.entries) next
-          (longer_now past now given index s h.grows e shard seq id tree moment_is kind_is
-          ∙ (ap (λ n. n + 1) h.count ∙ sym (ap length entries ∙ length-append b.entries (e ∷ []))));
+      grows = subst (λ n. Grows past n given) next grows;
       placed = λ q. places q
           ∙ (ap (λ o. cond (bytes_eq id q) (Some (seq, shard)) o) (h.placed q)
           ∙ (placed_now past now given index s h.grows e shard seq id tree moment_is kind_is q new_id ∙ ap (λ n. place_among (added past n) index q) next));
@@ -279,8 +218,7 @@ next_placed past actor given index s b id doc (Err refusal) shard seq h is shard
 next_placed past actor given index s b id doc (Ok e) shard seq h is shard_is low seq_is =
     let now = past_with past b.entries in
     let sh = shard_of id s.shards in
-    let p = passed id (reading s.mapping s.stamp doc) (option_map place_of (find (has_id index id) (written (read now)))) (next_seq now index sh)
-    (is_let_in now given index s (kept_tree s.stamp (moment_after now given) doc)) (write_after now actor given index s sh (next_seq now index sh) id doc) e (sym is) in
+    let p = passed id (reading s.mapping s.stamp doc) (option_map place_of (find (has_id index id) (written (read now)))) (next_seq now index sh) (write_after now actor given index s sh (next_seq now index sh) id doc) e (sym is) in
     let here : seq ≡ next_seq now index sh = seq_is ∙ (ap count_or (h.counted shard low) ∙ ap (next_seq now index) shard_is) in (
       slice_get_within b.counts shard _ (h.counted shard low),
       subst (λ n. n < 2 ^ 31) (sym here) p.room,
@@ -288,13 +226,13 @@ next_placed past actor given index s b id doc (Ok e) shard seq h is shard_is low
     )
 
 -- what the look-ups of a bulk say
-pub next_is : (past : List Entry) (actor : ℕ) (given : ℤ) (index : ℕ) (s : SourceIndex) (b : Batch) (id : List ℕ) (doc : Tree) (shard seq more : ℕ) (place : Option (ℕ × ℕ)) → IsBatch past given index s b
-    → shard ≡ shard_of id s.shards → shard < s.shards → seq ≡ count_or (slice_get b.counts shard) → more ≡ length b.entries
+pub next_is : (past : List Entry) (actor : ℕ) (given : ℤ) (index : ℕ) (s : SourceIndex) (b : Batch) (id : List ℕ) (doc : Tree) (shard seq : ℕ) (place : Option (ℕ × ℕ)) → IsBatch past given index s b
+    → shard ≡ shard_of id s.shards → shard < s.shards → seq ≡ count_or (slice_get b.counts shard)
     → place ≡ place_or (place_among (written (read past)) index id) (get (slice_cmp nat_cmp) b.places id)
-    → document_tried past actor given more index s shard place seq id doc ≡ next_tried past actor given index s b id doc
-next_is past actor given index s b id doc shard seq more place h shard_is low seq_is more_is place_is =
+    → document_tried past actor given index s shard place seq id doc ≡ next_tried past actor given index s b id doc
+next_is past actor given index s b id doc shard seq place h shard_is low seq_is place_is =
     let now = past_with past b.entries in
-    tried_now past now given index s h.grows actor more id doc shard place seq (more_is ∙ sym h.count) shard_is
+    tried_now past now given index s h.grows actor id doc shard place seq shard_is
     (place_is ∙ (ap (place_or (place_among (written (read past)) index id)) (h.placed id) ∙ place_now past now given index s h.grows id))
     (seq_is ∙ ap count_or (h.counted shard low))
 
@@ -304,49 +242,7 @@ spelled_more past [] (Ok e) h fits = (fits, tt)
 spelled_more past [] (Err refusal) h fits = tt
 spelled_more past (x ∷ entries) r h fits = (h.0, spelled_more past entries r h.1 fits)
 
-past_more : (past entries : List Entry) (r : Result Entry Refusal) → past_with past (entries ++ accepted (r ∷ [])) ≡ asking.past_with (past_with past entries) r
-past_more past entries (Ok e) = ap (λ es. es ++ past) (reverse-append entries (e ∷ []))
-past_more past entries (Err refusal) = ap (past_with past) (append-nil entries)
-
-accepted_first : (r : Result Entry Refusal) (rest : List (Result Entry Refusal)) → accepted (r ∷ rest) ≡ accepted (r ∷ []) ++ accepted rest
-accepted_first (Ok e) rest = refl
-accepted_first (Err refusal) rest = refl
-
-pub entries_more : (past : List Entry) (actor : ℕ) (given : ℤ) (index : ℕ) (s : SourceIndex) (b new : Batch) (id : List ℕ) (doc : Tree) (docs : List (List ℕ × Tree)) → IsTried (next_tried past actor given index s b id doc) b new
-    → new.entries ++ accepted (asked_documents (past_with past new.entries) actor given index s docs) ≡ b.entries ++ accepted (asked_documents (past_with past b.entries) actor given index s ((id, doc) ∷ docs))
-entries_more past actor given index s b new id doc docs t =
-    let r = next_tried past actor given index s b id doc in
-    let next = ap (past_with past) t.entries ∙ past_more past b.entries r in
-    (λ i. t.entries i ++ accepted (asked_documents (next i) actor given index s docs))
-    ∙ (append_assoc b.entries (accepted (r ∷ [])) (accepted (asked_documents (asking.past_with (past_with past b.entries) r) actor given index s docs))
-    ∙ ap (λ es. b.entries ++ es) (sym (accepted_first r (asked_documents (asking.past_with (past_with past b.entries) r) actor given index s docs))))
-
-pub items_more : (past : List Entry) (actor : ℕ) (given : ℤ) (index : ℕ) (s : SourceIndex) (b new : Batch) (id : List ℕ) (doc : Tree) (docs : List (List ℕ × Tree)) → IsTried (next_tried past actor given index s b id doc) b new
-    → new.items ++ map item_of (asked_documents (past_with past new.entries) actor given index s docs) ≡ b.items ++ map item_of (asked_documents (past_with past b.entries) actor given index s ((id, doc) ∷ docs))
-items_more past actor given index s b new id doc docs t =
-    let r = next_tried past actor given index s b id doc in
-    let next = ap (past_with past) t.entries ∙ past_more past b.entries r in
-    (λ i. t.items i ++ map item_of (asked_documents (next i) actor given index s docs)) ∙ append_assoc b.items (item_of r ∷ []) _
-
--- ---- counts
-pub counts_more : (now : List Entry) (index n : ℕ) (counts : List ℕ) (x : ℕ) → AreCounts now index n counts → length counts ≡ n → x ≡ next_seq now index n → AreCounts now index (n + 1) (counts ++ x ∷ [])
-counts_more now index n counts x are long is shard low = elim (cases_lt shard n) [
-  | inl below ↦ front counts shard (are shard below)
-  | inr above ↦
-      let at : shard ≡ n = omega (arith, low, above) in
-      ap (slice_get (counts ++ x ∷ [])) (at ∙ sym long) ∙ (back counts ∙ (ap Some is ∙ ap (λ k. Some (next_seq now index k)) (sym at)))
-]
-  where
-    front : (xs : List ℕ) (k : ℕ) → slice_get xs k ≡ Some (next_seq now index shard) → slice_get (xs ++ x ∷ []) k ≡ Some (next_seq now index shard)
-    front [] k e = absurd (let z : ◌≡◌ {A = Option ℕ} None (Some (next_seq now index shard)) = e in cc)
-    front (y ∷ xs) zero e = e
-    front (y ∷ xs) (suc k) e = front xs k e
-
-    back : (xs : List ℕ) → slice_get (xs ++ x ∷ []) (length xs) ≡ Some x
-    back [] = refl
-    back (y ∷ xs) = back xs
-
--- ---- before the first one, and after the last one
+-- ---- before the first one
 pub start_entries : (past : List Entry) (actor : ℕ) (given : ℤ) (index : ℕ) (s : SourceIndex) (entries : List Entry) (rest docs : List (List ℕ × Tree)) → entries ≡ [] → rest ≡ docs
     → entries ++ accepted (asked_documents (past_with past entries) actor given index s rest) ≡ accepted (asked_documents past actor given index s docs)
 start_entries past actor given index s entries rest docs e f = λ i. e i ++ accepted (asked_documents (past_with past (e i)) actor given index s (f i))
@@ -354,11 +250,3 @@ start_entries past actor given index s entries rest docs e f = λ i. e i ++ acce
 pub start_items : (past : List Entry) (actor : ℕ) (given : ℤ) (index : ℕ) (s : SourceIndex) (entries : List Entry) (items : List Item) (rest docs : List (List ℕ × Tree)) → entries ≡ [] → items ≡ [] → rest ≡ docs
     → items ++ map item_of (asked_documents (past_with past entries) actor given index s rest) ≡ map item_of (asked_documents past actor given index s docs)
 start_items past actor given index s entries items rest docs e g f = λ i. g i ++ map item_of (asked_documents (past_with past (e i)) actor given index s (f i))
-
-pub end_entries : (now : List Entry) (actor : ℕ) (given : ℤ) (index : ℕ) (s : SourceIndex) (entries wanted : List Entry) (rest : List (List ℕ × Tree)) → rest ≡ []
-    → entries ++ accepted (asked_documents now actor given index s rest) ≡ wanted → entries ≡ wanted
-end_entries now actor given index s entries wanted rest none is = sym (append-nil entries) ∙ (ap (λ ds. entries ++ accepted (asked_documents now actor given index s ds)) (sym none) ∙ is)
-
-pub end_items : (now : List Entry) (actor : ℕ) (given : ℤ) (index : ℕ) (s : SourceIndex) (items wanted : List Item) (rest : List (List ℕ × Tree)) → rest ≡ []
-    → items ++ map item_of (asked_documents now actor given index s rest) ≡ wanted → items ≡ wanted
-end_items now actor given index s items wanted rest none is = sym (append-nil items) ∙ (ap (λ ds. items ++ map item_of (asked_documents now actor given index s ds)) (sym none) ∙ is)

@@ -1,16 +1,14 @@
 -- The texts inside a tree that was read from a line have a spelling.
-use Rattle.std.proofs.Common.{◌≡◌, ℕ, cond, ◌≤◌, List, [], ◌∷◌, Some, None, IsUtf8, subst, arith}
-use Rattle.std.specs.Prelude.{codes, length}
+use Rattle.std.proofs.Common.{◌≡◌, ℕ, ◌≤◌, List, [], ◌∷◌, Option, Some, None, IsUtf8, refl, arith}
+use Rattle.std.specs.Prelude.{length, IfSome}
 use Rattle.std.specs.List.{AllByRecursion}
 use Rattle.tf_model.specs.declared.tree.Tree.{Tree}
-use Rattle.tf_model.specs.Names.{is_index_name}
 use Rattle.tf_model.specs.Trees.{member_at, member_of, members_in, text_in}
 use Rattle.tf_command.specs.Commands.{max_line}
 use Rattle.tf_command.specs.Formed.{IsKept}
 use Rattle.tf_command.proofs.LineParts.{kept_at, kept_members, names_of_members, names_short, text_short, text_utf8}
-use Rattle.tf_command.proofs.Options.{inside, tested}
+use Rattle.tf_command.proofs.Options.{inside}
 use Rattle.tf_event.specs.Spelling.{FitsText}
-use Rattle.tf_decide.specs.Forms.{index_of, text_of}
 
 pub text_fits : (t : Tree) (text : List ℕ) → IsKept t → text_in t ≡ Some text → FitsText text
 text_fits t text kept is =
@@ -30,14 +28,10 @@ kept_member t name inner kept is =
     let found = inside (λ members. member_at members name) (members_in t) inner is in
     kept_at name found.0 inner (kept_members t found.0 kept found.1) found.2
 
-pub member_text_fits : (t : Tree) (name text : List ℕ) → IsKept t → text_of t name ≡ Some text → FitsText text
-member_text_fits t name text kept is =
-    let found = inside text_in (member_of t name) text is in
-    text_fits found.0 text (kept_member t name found.0 kept found.1) found.2
+if_kept : (t : Tree) (name : List ℕ) (o : Option Tree) → IsKept t → member_of t name ≡ o → IfSome o IsKept
+if_kept t name None kept is = tt
+if_kept t name (Some inner) kept is = kept_member t name inner kept is
 
-pub index_name_fits : (t : Tree) (name : List ℕ) → IsKept t → index_of t ≡ Some name → FitsText name
-index_name_fits t name kept is =
-    let found = inside (λ text. cond (is_index_name text) (Some text) None) (text_of t (codes "index")) name is in
-    let same = tested (is_index_name found.0) (Some found.0) name found.2 in
-    let named : found.0 ≡ name = cc in
-    subst FitsText named (member_text_fits t (codes "index") found.0 kept found.1)
+-- the member with a name is kept, where there is one
+pub member_kept : (t : Tree) (name : List ℕ) → IsKept t → IfSome (member_of t name) IsKept
+member_kept t name kept = if_kept t name (member_of t name) kept refl

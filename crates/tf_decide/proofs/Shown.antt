@@ -1,5 +1,5 @@
 -- The rows of a life after a past of taken entries can be shown.
-use Rattle.std.proofs.Common.{◌≡◌, ℕ, Bool, true, false, cond, List, [], ◌∷◌, Option, Some, None, refl, subst, sym}
+use Rattle.std.proofs.Common.{◌≡◌, ℕ, zero, suc, take, Bool, true, false, cond, List, [], ◌∷◌, Option, Some, None, refl, subst, sym}
 use Rattle.std.specs.Prelude.{IfSome, IsSomeAnd}
 use Rattle.std.specs.List.{AllByRecursion, filter}
 use Rattle.std.specs.Ordering.{match_ordering}
@@ -28,6 +28,9 @@ use Rattle.tf_history.specs.Transforms.{PutTransform}
 use Rattle.tf_core.specs.Legal.{IsTakenPast, read, reading}
 use Rattle.tf_core.specs.declared.transform.Transform.{Transform}
 use Rattle.tf_core.specs.Table.{Tells}
+use Rattle.tf_model.specs.Changed.{is_after}
+use Rattle.tf_decide.specs.declared.asked.Search.{Search}
+use Rattle.tf_decide.specs.Replying.{rows_above, shown_rows}
 use Rattle.tf_decide.specs.Rows.{IsShown}
 
 abbrev AreShown : Life → Type 0
@@ -83,6 +86,16 @@ all_put (r ∷ page) rows h g = all_put page (put_row r rows) h.1 (one_put r row
 kept : (test : Row → Bool) (rows : List Row) → AllByRecursion IsShown rows → AllByRecursion IsShown (filter test rows)
 kept test [] h = tt
 kept test (r ∷ rows) h = elim (test r) as (λ b. AllByRecursion IsShown (cond b (r ∷ filter test rows) (filter test rows))) [ true ↦ (h.0, kept test rows h.1) | false ↦ kept test rows h.1 ]
+
+first : (n : ℕ) (rows : List Row) → AllByRecursion IsShown rows → AllByRecursion IsShown (take n rows)
+first zero [] h = tt
+first zero (r ∷ rows) h = tt
+first (suc n) [] h = tt
+first (suc n) (r ∷ rows) h = (h.0, first n rows h.1)
+
+-- those that a search shows
+pub searched_shown : (s : Search) (rows : List Row) → AllByRecursion IsShown rows → AllByRecursion IsShown (shown_rows s rows)
+searched_shown s rows h = first s.size (rows_above s.after rows) (kept (λ r. is_after s.after (row_key r)) rows h)
 
 -- ---- lives
 -- the rows of a page can be shown

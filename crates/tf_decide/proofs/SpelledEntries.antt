@@ -1,6 +1,5 @@
 -- The entries that commands ask for have a spelling.
-use Rattle.std.proofs.Common.{◌≡◌, ℕ, ◌<◌, ◌≤◌, ◌^◌, ℤ, pos, negsuc, true, false, List, [], ◌∷◌, length, drop, map, zero, suc, Option, Some, None, IsUtf8, FitsSigned, w64, ap, refl, arith}
-use Rattle.std.specs.Prelude.{IfSome}
+use Rattle.std.proofs.Common.{◌≡◌, ℕ, ◌<◌, ◌≤◌, ◌^◌, ℤ, pos, negsuc, true, List, [], ◌∷◌, length, drop, map, zero, suc, IsUtf8, FitsSigned, w64, ap, refl, arith}
 use Rattle.std.specs.Cmp.Derive.{both_true}
 use Rattle.std.specs.Cmp.Lexicographic.{slice_cmp}
 use Rattle.std.specs.List.{AllByRecursion, list_all}
@@ -9,7 +8,6 @@ use Rattle.std.specs.Ordering.{is_lt, nat_cmp}
 use Rattle.std.specs.declared.cmp.Ordering.TheVariants.{Less}
 use Rattle.std.proofs.lemmas.Bool.{and_parts}
 use Rattle.std.proofs.lemmas.Int.{ints}
-use Rattle.tf_model.specs.declared.config.Config.{Config}
 use Rattle.tf_model.specs.declared.entry.Entry.{Entry}
 use Rattle.tf_model.specs.declared.entry.Kind.{Kind}
 use Rattle.tf_model.specs.declared.entry.Kind.TheVariants as kind
@@ -17,8 +15,7 @@ use Rattle.tf_model.specs.declared.query.Mapping.{Mapping}
 use Rattle.tf_model.specs.declared.tree.Tree.{Tree}
 use Rattle.tf_model.specs.Conditions.{IsSpan}
 use Rattle.tf_model.specs.Names.{is_field_path}
-use Rattle.tf_command.specs.Formed.{IsDocumentId, IsShort}
-use Rattle.tf_event.specs.Configs.{FitsConfig}
+use Rattle.tf_command.specs.Formed.{IsDocumentId}
 use Rattle.tf_event.specs.Entries.{FitsEntry, FitsKind}
 use Rattle.tf_event.specs.Spelling.{FitsPair, FitsText}
 use Rattle.tf_event.specs.Trees.{FitsTree}
@@ -26,8 +23,7 @@ use Rattle.tf_event.specs.Values.{Field, FitsMapping, FitsType, ascends, ascends
 use Rattle.tf_event.specs.declared.grammar.Grammar.TheVariants.{First}
 use Rattle.tf_mapping.specs.Mappings.{IsMapping}
 use Rattle.tf_core.specs.Legal.{IsTakenPast}
-use Rattle.tf_decide.specs.Asking.{entry_after, index_made, put_made, start_made}
-use Rattle.tf_decide.specs.Ready.{IsReady}
+use Rattle.tf_decide.specs.Asking.{entry_after}
 use Rattle.tf_decide.proofs.Sound.{moment_span, path_short}
 
 -- ---- mappings
@@ -65,27 +61,6 @@ span_fits (negsuc n) span = absurd (omega (arith, ints, span.0))
 
 pub entry_fits : (past : List Entry) (actor : ℕ) (given : ℤ) (k : Kind) → IsTakenPast past → actor ≤ 15 → FitsKind First k → FitsEntry First (entry_after past actor given k)
 entry_fits past actor given k taken few fits = record { at_ms = span_fits _ (moment_span past given taken); actor = omega (arith, few); kind = fits }
-
-stamp_fits : (stamp : Option (List ℕ)) → IfSome stamp IsShort → IfSome stamp IsUtf8 → IfSome stamp FitsText
-stamp_fits None short utf8 = tt
-stamp_fits (Some text) short utf8 = (omega (arith, short), utf8)
-
-pub index_ready : (past : List Entry) (actor : ℕ) (given : ℤ) (name : List ℕ) (shards : ℕ) (stamp : Option (List ℕ)) (mapping : Mapping) → IsTakenPast past → actor ≤ 15
-    → IsShort name → IsUtf8 name → shards < 2 ^ 32 → IfSome stamp IsShort → IfSome stamp IsUtf8 → FitsMapping mapping → IsReady past (index_made past actor given name shards stamp mapping)
-index_ready past actor given name shards stamp mapping taken few short utf8 small stamp_short stamp_utf8 fits = record {
-  follows = tt;
-  spelled = (entry_fits past actor given (kind.Index name shards mapping stamp false) taken few ((omega (arith, short), utf8), small, fits, stamp_fits stamp stamp_short stamp_utf8), tt);
-}
-
-pub put_ready : (past : List Entry) (actor : ℕ) (given : ℤ) (id : List ℕ) (config : Config) → IsTakenPast past → actor ≤ 15 → IsShort id → IsUtf8 id → FitsConfig First config
-    → IsReady past (put_made past actor given id config)
-put_ready past actor given id config taken few short utf8 fits = record {
-  follows = tt;
-  spelled = (entry_fits past actor given (kind.Put id config) taken few ((omega (arith, short), utf8), fits), tt);
-}
-
-pub start_ready : (past : List Entry) (actor : ℕ) (given : ℤ) (id : List ℕ) → IsTakenPast past → actor ≤ 15 → IsShort id → IsUtf8 id → IsReady past (start_made past actor given id)
-start_ready past actor given id taken few short utf8 = record { follows = refl; spelled = (entry_fits past actor given (kind.Start id) taken few (omega (arith, short), utf8), tt) }
 
 pub document_fits : (past : List Entry) (actor : ℕ) (given : ℤ) (index shard seq : ℕ) (id : List ℕ) (tree : Tree) → IsTakenPast past → actor ≤ 15 → index < 2 ^ 32 → shard < 2 ^ 32
     → seq < 2 ^ 64 → IsDocumentId id → IsUtf8 id → FitsTree tree → FitsEntry First (entry_after past actor given (kind.Write index shard seq id tree))

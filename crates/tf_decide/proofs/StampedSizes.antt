@@ -41,11 +41,6 @@ size_later : (later : Bool) (members : List Member) → size true members ≤ si
 size_later later [] = omega arith
 size_later later (m ∷ members) = omega (arith, size_first true m members, size_first later m members, comma_small true, comma_small later)
 
-size_sooner : (later : Bool) (members : List Member) → size later members ≤ size true members
-size_sooner true members = omega arith
-size_sooner false [] = omega arith
-size_sooner false (m ∷ members) = omega (arith, size_first true m members, size_first false m members)
-
 inserted_size : (later : Bool) (members : List Member) (name : List ℕ) (t : Tree)
     → size later (with_member members name t) ≤ size later members + (length (quoted name) + (length (printed t) + 3))
 inserted_size later [] name t = omega (arith, size_first later (name, t) [], comma_small later)

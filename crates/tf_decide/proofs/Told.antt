@@ -1,12 +1,12 @@
 -- How a transform stands that is started.
-use Rattle.std.proofs.Common.{◌≡◌, ℕ, cond, List, [], ◌∷◌, ◌++◌, Option, Some, None, refl, sym, ap, ◌∙◌}
+use Rattle.std.proofs.Common.{◌≡◌, ℕ, cond, List, [], ◌∷◌, ◌++◌, Option, Some, None, sym, ap, ◌∙◌}
 use Rattle.std.specs.Prelude.{nat_lt, reverse}
 use Rattle.tf_model.specs.declared.doc.Doc.{Doc}
 use Rattle.tf_model.specs.declared.entry.Entry.{Entry}
 use Rattle.tf_model.specs.declared.entry.Kind.{Kind}
 use Rattle.tf_model.specs.declared.entry.Kind.TheVariants as kind
 use Rattle.tf_model.specs.declared.task.State.TheVariants as state
-use Rattle.tf_history.specs.Lives.{Life, act, documents, is_running, life, life_after, lived, state_turned}
+use Rattle.tf_history.specs.Lives.{Life, act, documents, life, life_after, state_turned}
 use Rattle.tf_history.specs.Lives.Act.{Aside, Turns}
 use Rattle.tf_history.specs.Lives.Turn.{Starts}
 use Rattle.tf_history.specs.Catalogue.{catalogue}
@@ -33,9 +33,6 @@ pub started_life : (entries past : List Entry) (id : List ℕ) → kinds entries
 started_life [] past id is = absurd (let none : ◌≡◌ {A = List Kind} [] (kind.Start id ∷ []) = is in cc)
 started_life (e ∷ []) past id is = start_after past e id (let same : e.kind ≡ kind.Start id = cc in same)
 started_life (e ∷ f ∷ entries) past id is = absurd (let more : ◌≡◌ {A = List Kind} (e.kind ∷ f.kind ∷ kinds entries) (kind.Start id ∷ []) = is in cc)
-
-state_now : (l : Life) → (lived [] (Turns Starts) l).state ≡ state_turned Starts (is_running l) state.Stopped
-state_now l = refl
 
 pub none_told : (line count : ℕ) (entries past : List Entry) (id : List ℕ) → kinds entries ≡ kind.Start id ∷ [] → life id (read past) ≡ None
     → reply.Task line count id state.Stopped 0 ≡ task line count id (life id (read (reverse entries ++ past)))

@@ -1,6 +1,6 @@
 -- What a command asks for after a past: the entries that it makes, the oldest first, or the first refusal.
-use Rattle.std.specs.Prelude.{ℕ, ℤ, pos, ◌^◌, int_le, nat_eq, nat_le, nat_lt, Bool, false, not, ◌&&◌, ◌||◌, List, [], ◌∷◌, length, count_by, filter_map, map, slice_get, Option, Some, None, is_none, is_some, Result, Ok, Err, if◌then◌else◌}
-use Rattle.std.specs.List.{find, list_all, list_any}
+use Rattle.std.specs.Prelude.{ℕ, ℤ, pos, ◌^◌, int_le, nat_le, nat_lt, Bool, true, false, not, ◌&&◌, List, [], ◌∷◌, length, count_by, filter_map, map, slice_get, Option, Some, None, is_some, Result, Ok, Err, if◌then◌else◌}
+use Rattle.std.specs.List.{find, list_any}
 use Rattle.std.specs.Option.{option_map}
 use Rattle.std.specs.Result.{result_ok}
 use Rattle.tf_model.specs.declared.config.Config.{Config}
@@ -9,38 +9,44 @@ use Rattle.tf_model.specs.declared.entry.Entry.{Entry}
 use Rattle.tf_model.specs.declared.entry.Kind.{Kind}
 use Rattle.tf_model.specs.declared.entry.Kind.TheVariants as kind
 use Rattle.tf_model.specs.declared.query.Mapping.{Mapping}
+use Rattle.tf_model.specs.declared.task.State.{State}
+use Rattle.tf_model.specs.declared.task.State.TheVariants as state
 use Rattle.tf_model.specs.declared.tree.Tree.{Tree}
+use Rattle.tf_model.specs.declared.value.Key.{Key}
 use Rattle.tf_model.specs.declared.value.Value.{Value}
 use Rattle.tf_model.specs.Names.{is_index_name, is_transform_id}
 use Rattle.tf_command.specs.declared.command.Op.{Op}
 use Rattle.tf_command.specs.declared.command.Op.TheVariants as op
+use Rattle.tf_config.specs.declared.error.ConfigError.{ConfigError}
+use Rattle.tf_config.specs.Reading as configs
 use Rattle.tf_mapping.specs.declared.error.DocError.{DocError}
 use Rattle.tf_mapping.specs.declared.error.MappingError.{MappingError}
 use Rattle.tf_mapping.specs.Documents as documents
 use Rattle.tf_mapping.specs.Mappings as mappings
 use Rattle.tf_mapping.specs.Routes.{shard_of}
 use Rattle.tf_mapping.specs.Stamps.{stamped}
-use Rattle.tf_mapping.specs.Written.{is_written}
 use Rattle.tf_reply.specs.declared.faults.Limit.TheVariants as limit
 use Rattle.tf_reply.specs.declared.faults.Refusal.{Refusal}
 use Rattle.tf_reply.specs.declared.faults.Refusal.TheVariants as refusal
 use Rattle.tf_reply.specs.declared.replies.Item.{Item}
 use Rattle.tf_reply.specs.declared.replies.Item.TheVariants as item
-use Rattle.tf_reply.specs.Refusals.{doc_refusal, mapping_refusal}
-use Rattle.tf_history.specs.Catalogue.{SourceIndex, catalogue, number_of, source_numbers}
+use Rattle.tf_reply.specs.Refusals.{config_refusal, doc_refusal, mapping_refusal}
+use Rattle.tf_history.specs.Catalogue.{SourceIndex, catalogue, number_of}
 use Rattle.tf_history.specs.LegalEntries.{has_id, is_free, is_in_shard}
 use Rattle.tf_history.specs.Legality as legality
 use Rattle.tf_history.specs.Lives.{Life, documents as written, life}
-use Rattle.tf_history.specs.Transforms.{transform_of, transforms}
-use Rattle.tf_core.specs.Built.{are_readable, fits_indices, is_built_config, is_empty, lets_in}
+use Rattle.tf_history.specs.Transforms.{PutTransform, transform_of, transforms}
+use Rattle.tf_group.specs.Reading.{key_in}
+use Rattle.tf_config.specs.Catalogue.{fields_of}
+use Rattle.tf_core.specs.Built.{is_built_config}
 use Rattle.tf_core.specs.Legal.{read}
 use Rattle.tf_core.specs.Lookups.{is_into}
 use Rattle.tf_core.specs.Moves.{moment_after}
+use Rattle.tf_core.specs.Sources.{catalogued}
 use Rattle.tf_decide.specs.declared.asked.Answer.{Answer}
 use Rattle.tf_decide.specs.declared.asked.Answer.TheVariants as answer
 use Rattle.tf_decide.specs.declared.asked.Asked.{Asked}
-use Rattle.tf_decide.specs.declared.config.ConfigForm.{ConfigForm}
-use Rattle.tf_decide.specs.Configs.{config_of, configured}
+use Rattle.tf_decide.specs.declared.standing.Standing.{Standing}
 
 -- an entry by an actor, where a moment is given
 abbrev pub entry_after : List Entry → ℕ → ℤ → Kind → Entry
@@ -119,40 +125,34 @@ write_after past actor given index s shard seq id tree = entry_after past actor 
 abbrev pub next_seq : List Entry → ℕ → ℕ → ℕ
 next_seq past index shard = count_by (is_in_shard index shard) (written (read past))
 
--- the index keeps a tree that is written next, and the transform over it, where there is one, can read it
-abbrev pub is_let_in : List Entry → ℤ → ℕ → SourceIndex → Tree → Bool
-is_let_in past given index s tree =
-    is_written s.mapping s.stamp (moment_after past given) tree && list_all (lets_in (written (read past)) index (documents.values_of s.mapping s.stamp tree)) (transforms past)
-
--- the shard is not full, and the document is let in as it is kept
-abbrev pub document_with : ℕ → Bool → Entry → Result Entry Refusal
-document_with seq fits e = if nat_lt seq (2 ^ 31) then (if fits then Ok e else Err refusal.UnsupportedYet) else Err (refusal.Limit limit.Documents)
+-- the shard is not full
+abbrev pub document_with : ℕ → Entry → Result Entry Refusal
+document_with seq e = if nat_lt seq (2 ^ 31) then Ok e else Err (refusal.Limit limit.Documents)
 
 -- where a document stands in its shard, and in which
 abbrev pub place_of : Doc → ℕ × ℕ
 place_of d = (d.seq, d.shard)
 
 -- the id is new in the index; a document that has it stands at a place
-abbrev pub document_new : List ℕ → Option (ℕ × ℕ) → ℕ → Bool → Entry → Result Entry Refusal
-document_new id (Some place) seq fits e = Err (refusal.VersionConflict id place.0 place.1)
-document_new id None seq fits e = document_with seq fits e
+abbrev pub document_new : List ℕ → Option (ℕ × ℕ) → ℕ → Entry → Result Entry Refusal
+document_new id (Some place) seq e = Err (refusal.VersionConflict id place.0 place.1)
+document_new id None seq e = document_with seq e
 
 abbrev pub refusal_or : Option Refusal → Refusal
 refusal_or None = refusal.UnsupportedYet
 refusal_or (Some r) = r
 
 -- the mapping reads the document
-abbrev pub document_by : List ℕ → Result (List (List ℕ × Value)) DocError → Option (ℕ × ℕ) → ℕ → Bool → Entry → Result Entry Refusal
-document_by id (Ok values) place seq fits e = document_new id place seq fits e
-document_by id (Err error) place seq fits e = Err (refusal_or (doc_refusal error))
+abbrev pub document_by : List ℕ → Result (List (List ℕ × Value)) DocError → Option (ℕ × ℕ) → ℕ → Entry → Result Entry Refusal
+document_by id (Ok values) place seq e = document_new id place seq e
+document_by id (Err error) place seq e = Err (refusal_or (doc_refusal error))
 
 -- what becomes of a document of an index: its entry, as the next one of its shard, or why it is refused
 abbrev pub asked_document : List Entry → ℕ → ℤ → ℕ → SourceIndex → List ℕ → Tree → Result Entry Refusal
 asked_document past actor given index s id tree =
     let shard = shard_of id s.shards in
     let seq = next_seq past index shard in
-    document_by id (documents.reading s.mapping s.stamp tree) (option_map place_of (find (has_id index id) (written (read past)))) seq
-    (is_let_in past given index s (kept_tree s.stamp (moment_after past given) tree)) (write_after past actor given index s shard seq id tree)
+    document_by id (documents.reading s.mapping s.stamp tree) (option_map place_of (find (has_id index id) (written (read past)))) seq (write_after past actor given index s shard seq id tree)
 
 -- the past after it
 abbrev pub past_with : List Entry → Result Entry Refusal → List Entry
@@ -215,52 +215,81 @@ asked_written past actor given name id tree = into past name (λ index s. docume
 abbrev pub asked_bulk : List Entry → ℕ → ℤ → List ℕ → List (List ℕ × Tree) → Asked
 asked_bulk past actor given name docs = into past name (λ index s. documents_tried (asked_documents past actor given index s docs))
 
--- ---- a transform is put, by the one form that is built
--- there is no other transform, and this one can read the documents of its source
-abbrev pub can_read : List Entry → Config → Bool
-can_read past c = is_empty (transforms past) && are_readable c.shape (source_numbers (catalogue past) c.sources) (written (read past))
-
+-- ---- a transform is put
 abbrev pub put_made : List Entry → ℕ → ℤ → List ℕ → Config → Asked
 put_made past actor given id c = makes (entry_after past actor given (kind.Put id c)) answer.Created
 
-abbrev pub put_after : List Entry → ℕ → ℤ → List ℕ → Config → Asked
-put_after past actor given id c =
-    if is_some (transform_of id past) || not (is_built_config c && fits_indices c (catalogue past)) then unsupported
-    else if not (is_free c.dest past) then refuses (refusal.IndexExists c.dest)
-    else if can_read past c then put_made past actor given id c
+-- the name of the destination is free, there are fewer than 64 transforms, and transforms of this form are built
+abbrev pub put_with : List Entry → ℕ → ℤ → List ℕ → Config → Asked
+put_with past actor given id c =
+    if not (is_free c.dest past) then refuses (refusal.IndexExists c.dest)
+    else if nat_le 64 (length (transforms past)) then refuses (refusal.Limit limit.Transforms)
+    else if is_built_config c then put_made past actor given id c
     else unsupported
 
-abbrev pub put_by : List Entry → ℕ → ℤ → List ℕ → Option ConfigForm → Asked
-put_by past actor given id None = unsupported
-put_by past actor given id (Some form) = put_after past actor given id (configured form)
+abbrev pub put_by : List Entry → ℕ → ℤ → List ℕ → Result Config ConfigError → Asked
+put_by past actor given id (Ok c) = put_with past actor given id c
+put_by past actor given id (Err error) = refused_by (config_refusal error)
+
+-- the id is new, and the configuration passes over the indices that are there
+abbrev pub put_new : List Entry → ℕ → ℤ → List ℕ → Tree → Asked
+put_new past actor given id tree =
+    if is_some (transform_of id past) then refuses (refusal.TransformExists id)
+    else put_by past actor given id (configs.reading (catalogued (catalogue past)) true tree)
 
 abbrev pub asked_put : List Entry → ℕ → ℤ → List ℕ → Tree → Asked
-asked_put past actor given id config = if is_transform_id id then put_by past actor given id (config_of config) else refuses (refusal.BadName id)
+asked_put past actor given id tree = if is_transform_id id then put_new past actor given id tree else refuses (refusal.BadName id)
 
 -- ---- a transform is started
-abbrev pub starts : Option Life → Bool
-starts None = false
-starts (Some l) = legality.may_start l
+-- how a transform stands
+abbrev pub standing_of : Life → Standing
+standing_of l = record { state = l.state; is_over = legality.is_over l }
 
 abbrev pub start_made : List Entry → ℕ → ℤ → List ℕ → Asked
 start_made past actor given id = makes (entry_after past actor given (kind.Start id)) (answer.Started id)
 
+-- one that is there: it is stopped, and no batch transform whose checkpoint is finished
+abbrev pub start_by : List Entry → ℕ → ℤ → List ℕ → State → Bool → Asked
+start_by past actor given id state.Stopped over = if over then refuses (refusal.AlreadyFinished id state.Stopped) else start_made past actor given id
+start_by past actor given id state.Failed over = refuses (refusal.IsFailed id state.Failed)
+start_by past actor given id s over = refuses (refusal.AlreadyStarted id s)
+
+abbrev pub start_of : List Entry → ℕ → ℤ → List ℕ → Option Standing → Asked
+start_of past actor given id None = refuses (refusal.NoSuchTransform id)
+start_of past actor given id (Some s) = start_by past actor given id s.state s.is_over
+
 abbrev pub asked_start : List Entry → ℕ → ℤ → List ℕ → Asked
 asked_start past actor given id =
-    if not (is_transform_id id) then refuses (refusal.BadName id)
-    else if starts (life id (read past)) then start_made past actor given id
-    else unsupported
+    if is_transform_id id then start_of past actor given id (option_map standing_of (life id (read past))) else refuses (refusal.BadName id)
 
--- ---- rows are searched: the first ten of a destination
+-- ---- rows are searched
 abbrev pub may_be_searched : List Entry → List ℕ → Bool
 may_be_searched past name = is_index_name name && not (is_index past name)
 
+abbrev pub shows : List ℕ → ℕ → Option Key → Asked
+shows name size after = tells (answer.Shown (record { dest = name; after = after; size = size }))
+
+-- the rows above the key that an array is, where it is one
+abbrev pub shows_above : List ℕ → ℕ → Option Key → Asked
+shows_above name size None = refuses refusal.BadAfter
+shows_above name size (Some key) = shows name size (Some key)
+
+-- the key that an array is by a configuration
+abbrev pub key_after : List Entry → Config → Tree → Option Key
+key_after past c array = key_in c (fields_of (catalogued (catalogue past)) c.sources) array
+
+-- rows of a destination that is grouped by a configuration
+abbrev pub search_by : List Entry → List ℕ → ℕ → Config → Option Tree → Asked
+search_by past name size c None = shows name size None
+search_by past name size c (Some array) = shows_above name size (key_after past c array)
+
+abbrev pub search_in : List Entry → List ℕ → ℕ → Option Tree → Option PutTransform → Asked
+search_in past name size after None = refuses (refusal.NoSuchIndex name)
+search_in past name size after (Some p) = search_by past name size p.config after
+
 abbrev pub asked_search : List Entry → List ℕ → ℕ → Option Tree → Asked
 asked_search past name size after =
-    if not (may_be_searched past name) then refuses (refusal.BadName name)
-    else if not (is_dest past name) then refuses (refusal.NoSuchIndex name)
-    else if nat_eq size 10 && is_none after then tells (answer.Shown name)
-    else unsupported
+    if may_be_searched past name then search_in past name size after (find (is_into name) (transforms past)) else refuses (refusal.BadName name)
 
 -- ---- commands
 -- what a command asks for after a past, by an actor, where a moment is given

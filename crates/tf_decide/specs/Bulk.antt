@@ -13,10 +13,8 @@ use Rattle.tf_reply.specs.declared.faults.Refusal.{Refusal}
 use Rattle.tf_history.specs.Catalogue.{SourceIndex, catalogue}
 use Rattle.tf_history.specs.LegalEntries.{has_id}
 use Rattle.tf_history.specs.Lives.{documents as written}
-use Rattle.tf_history.specs.Transforms.{transforms}
 use Rattle.tf_core.specs.Legal.{read}
 use Rattle.tf_core.specs.Moves.{moment_after}
-use Rattle.tf_core.specs.Suiting.{AreIn}
 use Rattle.tf_decide.specs.declared.batch.Batch.{Batch}
 use Rattle.tf_decide.specs.Asking.{accepted, asked_document, item_of, next_seq, place_of, placed_by}
 
@@ -28,13 +26,11 @@ past_with past entries = reverse entries ++ past
 abbrev pub added : List Entry → List Entry → List Doc
 added past now = drop (length (written (read past))) (written (read now))
 
--- A past comes to be another one by documents of one index alone.
-pub record Grows (past now : List Entry) (given : ℤ) (index : ℕ) : Type 0 where
+-- A past comes to be another one by documents alone.
+pub record Grows (past now : List Entry) (given : ℤ) : Type 0 where
   pub indices : catalogue now ≡ catalogue past
-  pub puts : transforms now ≡ transforms past
   pub moment : moment_after now given ≡ moment_after past given
   pub docs : written (read now) ≡ written (read past) ++ added past now
-  pub inside : AreIn index (added past now)
 
 -- each shard below a number has its count
 abbrev pub AreCounts : List Entry → ℕ → ℕ → List ℕ → Type 0
@@ -46,8 +42,7 @@ place_among docs index id = option_map place_of (find (has_id index id) docs)
 
 -- entries, places and counts that stand for the entries of a bulk that are accepted
 pub record AreOf (past : List Entry) (given : ℤ) (index : ℕ) (s : SourceIndex) (entries : List Entry) (places : BTreeMap (List ℕ) (ℕ × ℕ)) (counts : List ℕ) : Type 0 where
-  pub grows : Grows past (past_with past entries) given index
-  pub count : length (added past (past_with past entries)) ≡ length entries
+  pub grows : Grows past (past_with past entries) given
   pub placed : (id : List ℕ) → get (slice_cmp nat_cmp) places id ≡ place_among (added past (past_with past entries)) index id
   pub counted : AreCounts (past_with past entries) index s.shards counts
 

@@ -1,5 +1,3 @@
-pub mod Forms
-pub mod Configs
 pub mod Asking
 pub mod Documents
 pub mod Bulk

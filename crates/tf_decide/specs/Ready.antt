@@ -17,7 +17,7 @@ kinds entries = map (λ (e : Entry). e.kind) entries
 -- where a start is told, a Start is the one entry; where rows are shown, there is none
 abbrev pub Follows : List Entry → Answer → Type 0
 Follows entries (answer.Started id) = kinds entries ≡ kind.Start id ∷ []
-Follows entries (answer.Shown name) = entries ≡ []
+Follows entries (answer.Shown search) = entries ≡ []
 Follows entries _ = Unit {0}
 
 -- each of the entries has a spelling

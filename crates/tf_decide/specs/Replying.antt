@@ -1,6 +1,6 @@
 -- The reply to a command, by what was asked for and the past after it.
 use Rattle.std.specs.Prelude.{ℕ, ℤ, Bool, List, [], ◌++◌, length, map, reverse, take, Option, Some, None}
-use Rattle.std.specs.List.{find}
+use Rattle.std.specs.List.{filter, find}
 use Rattle.tf_model.specs.declared.config.Config.{Config}
 use Rattle.tf_model.specs.declared.config.Shape.{Shape}
 use Rattle.tf_model.specs.declared.config.Shape.TheVariants as shape
@@ -10,6 +10,8 @@ use Rattle.tf_model.specs.declared.entry.Row.TheVariants as row
 use Rattle.tf_model.specs.declared.task.State.TheVariants as state
 use Rattle.tf_model.specs.declared.tree.Tree.{Tree}
 use Rattle.tf_model.specs.declared.tree.Tree.TheVariants as tree
+use Rattle.tf_model.specs.declared.value.Key.{Key}
+use Rattle.tf_model.specs.Changed.{is_after}
 use Rattle.tf_command.specs.declared.command.Command.{Command}
 use Rattle.tf_reply.specs.declared.replies.Hit.{Hit}
 use Rattle.tf_reply.specs.declared.replies.Reply.{Reply}
@@ -23,6 +25,7 @@ use Rattle.tf_core.specs.Lookups.{is_into}
 use Rattle.tf_decide.specs.declared.asked.Answer.{Answer}
 use Rattle.tf_decide.specs.declared.asked.Answer.TheVariants as answer
 use Rattle.tf_decide.specs.declared.asked.Asked.{Asked}
+use Rattle.tf_decide.specs.declared.asked.Search.{Search}
 use Rattle.tf_decide.specs.Asking.{asked}
 
 -- the past after the entries that are asked for
@@ -47,13 +50,21 @@ abbrev pub rows_of : Option Life → List Row
 rows_of None = []
 rows_of (Some l) = l.rows
 
--- the first ten rows of a destination, and how many there are
-abbrev pub found_rows : ℕ → ℕ → Config → List Row → Reply
-found_rows line count c rows = reply.Found line count (map (hit_of c) (take 10 rows)) (length rows)
+-- the rows above a key, and all where there is none
+abbrev pub rows_above : Option Key → List Row → List Row
+rows_above after rows = filter (λ r. is_after after (row_key r)) rows
 
-abbrev pub found : ℕ → ℕ → List Entry → Option PutTransform → Reply
-found line count now None = reply.Found line count [] 0
-found line count now (Some p) = found_rows line count p.config (rows_of (life p.id (read now)))
+-- the rows that a search shows: of those above its key the first ones, as many as it asks for
+abbrev pub shown_rows : Search → List Row → List Row
+shown_rows s rows = take s.size (rows_above s.after rows)
+
+-- these rows of a destination, and how many rows it has
+abbrev pub found_rows : ℕ → ℕ → Search → Config → List Row → Reply
+found_rows line count s c rows = reply.Found line count (map (hit_of c) (shown_rows s rows)) (length rows)
+
+abbrev pub found : ℕ → ℕ → Search → List Entry → Option PutTransform → Reply
+found line count s now None = reply.Found line count [] 0
+found line count s now (Some p) = found_rows line count s p.config (rows_of (life p.id (read now)))
 
 -- the reply to a line by the pasts before and after it
 abbrev pub reply_by : ℕ → List Entry → List Entry → Answer → Reply
@@ -62,7 +73,7 @@ reply_by line before now (answer.Written seq shard) = reply.Written line (length
 reply_by line before now (answer.Tried items) = reply.Bulk line (length now) (length before) items
 reply_by line before now (answer.Started id) = task line (length now) id (life id (read now))
 reply_by line before now answer.Settled = reply.Settled line (length now)
-reply_by line before now (answer.Shown name) = found line (length now) now (find (is_into name) (transforms now))
+reply_by line before now (answer.Shown s) = found line (length now) s now (find (is_into s.dest) (transforms now))
 reply_by line before now (answer.Refused r) = reply.Refused line (length now) r
 
 -- the reply to a command that is done after a past by an actor, where a moment is given, when its entries are there

@@ -1,5 +1,5 @@
 // What a command asks for.
-use tf_model::{Entry, List, Text};
+use tf_model::{Entry, Key, List, Text};
 use tf_reply::{Item, Refusal};
 
 /// What is told of a command, beside what the transforms then are.
@@ -14,9 +14,20 @@ pub enum Answer {
     Started(Text),
     /// The transforms are to be settled.
     Settled,
-    /// The rows of the destination with this name.
-    Shown(Text),
+    /// Rows of a destination are shown.
+    Shown(Search),
     Refused(Refusal),
+}
+
+/// Which rows are shown.
+#[derive(Drop)]
+pub struct Search {
+    /// The name of the destination.
+    pub dest: Text,
+    /// The rows above this key, and all where there is none.
+    pub after: Option<Key>,
+    /// So many of them at most, the first ones.
+    pub size: u32,
 }
 
 /// The entries that a command makes, and what is told of it.

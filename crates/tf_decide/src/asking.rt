@@ -11,7 +11,8 @@ use crate::giving::Given;
 use crate::indices::ask_index;
 use crate::making::{told, unsupported};
 use crate::rows::ask_search;
-use crate::transforms::{ask_put, ask_start};
+use crate::starting::ask_start;
+use crate::transforms::ask_put;
 use std::alloc::Global;
 use tf_command::Op;
 use tf_core::Core;
@@ -38,7 +39,7 @@ pub fn ask(alloc: Global, core: &Core, op: Op, given: &Given) -> Result<Asked, O
         Op::PutTransform { id, config } => ask_put(alloc, core, id, &config, given),
         Op::Start { id } => ask_start(alloc, core, id, given),
         Op::Settle => Ok(told(alloc, Answer::Settled)),
-        Op::Search { index, size, after } => Ok(ask_search(alloc, core, index, size, after)),
+        Op::Search { index, size, after } => ask_search(alloc, core, index, size, after),
         _ => Ok(unsupported(alloc)),
     }
 }

@@ -176,10 +176,9 @@ fn try_next(
     let shard = shard_of(core, index, source, &id);
     let place = place_with(core, index, &batch.places, &id);
     let seq = count_at(&batch.counts, shard);
-    let more = batch.entries.len() as u64;
     let name = id.copy(alloc)?;
     let tried = try_document(
-        alloc, core, index, source, shard, place, seq, more, id, doc, given,
+        alloc, core, index, source, shard, place, seq, id, doc, given,
     )?;
     add(batch, name, shard, seq, tried)
 }

@@ -7,10 +7,8 @@ ghost use Rattle.tf_model.specs.Lines.{IsLine};
 ghost use Rattle.tf_history.specs.Catalogue.{catalogue};
 ghost use Rattle.tf_history.specs.LegalEntries.{has_id};
 ghost use Rattle.tf_history.specs.Lives.{documents as written};
-ghost use Rattle.tf_history.specs.Transforms.{transforms};
 ghost use Rattle.tf_mapping.specs.Documents.{reading};
 ghost use Rattle.tf_mapping.specs.Routes as shards;
-ghost use Rattle.tf_core.specs.Allowing.{written_in};
 ghost use Rattle.tf_core.specs.Legal.{read};
 ghost use Rattle.tf_core.specs.Moves.{moment_after};
 ghost use Rattle.tf_decide.specs.Asking as spec;
@@ -22,10 +20,10 @@ use crate::finding::{index_number, is_dest};
 use crate::giving::Given;
 use crate::making::{entry_after, made, moment_of, refused, text_is_utf8};
 use std::alloc::Global;
-use tf_core::{Core, Index, kept_values};
+use tf_core::{Core, Index};
 use tf_json::line_is_read;
 use tf_mapping::{read_doc, route, stamped};
-use tf_model::{Entry, Kind, List, OutOfMemory, Text, Tree, Value, is_index_name};
+use tf_model::{Entry, Kind, OutOfMemory, Text, Tree, is_index_name};
 use tf_reply::{Limit, Refusal, doc_refusal};
 
 const MOST_DOCUMENTS: u64 = 2_147_483_648;
@@ -151,7 +149,7 @@ fn ask_document(
     let place = place_in(core, index, &id);
     let seq = core.next_seq(index, shard);
     try_document(
-        alloc, core, index, source, shard, place, seq, 0, id, doc, given,
+        alloc, core, index, source, shard, place, seq, id, doc, given,
     )
 }
 
@@ -175,8 +173,7 @@ pub fn place_in(core: &Core, index: u32, id: &Text) -> Option<(u64, u32)>
     }
 }
 
-/// What becomes of a document, by the place of one with its id, the next number of its shard, and how many more documents
-/// of the index are counted.
+/// What becomes of a document, by the place of one with its id and the next number of its shard.
 pub fn try_document(
     alloc: Global,
     core: &Core,
@@ -185,7 +182,6 @@ pub fn try_document(
     shard: u32,
     place: Option<(u64, u32)>,
     seq: u64,
-    more: u64,
     id: Text,
     doc: Tree,
     given: &Given,
@@ -194,31 +190,25 @@ pub fn try_document(
     requires id { IsDocumentId id }
     requires doc { IsObject doc }
     requires actor { given.now.actor ≤ 15 }
-    ensures asked { IfOk result (λ tried. tried ≡ spec_tried.document_tried (reverse core.now.history) given.now.actor given.now.at_ms more index source.now shard place seq id doc) }
+    ensures asked { IfOk result (λ tried. tried ≡ spec_tried.document_tried (reverse core.now.history) given.now.actor given.now.at_ms index source.now shard place seq id doc) }
     ensures ready { IfOk result (IsReadyDocument (reverse core.now.history)) }
 {
-    match read_values(alloc, source, &doc)? {
-        Err(refusal) => Ok(Err(refusal)),
-        Ok(values) => match place {
+    match refused_by(alloc, source, &doc)? {
+        Some(refusal) => Ok(Err(refusal)),
+        None => match place {
             Some((seq, shard)) => Ok(Err(Refusal::VersionConflict { id, seq, shard })),
-            None => keep_document(
-                alloc, core, index, source, shard, seq, more, values, id, doc, given,
-            ),
+            None => keep_document(alloc, core, index, source, shard, seq, id, doc, given),
         },
     }
 }
 
-// The values of a document with its stamp free, or why it is refused.
-fn read_values(
-    alloc: Global,
-    source: &Index,
-    doc: &Tree,
-) -> Result<Result<List<(Text, Value)>, Refusal>, OutOfMemory>
-    ensures { IfOk result (λ values. values ≡ spec_tried.values_or (reading source.now.mapping source.now.stamp doc.now)) }
+// Why an index does not read a document with its stamp free, where it does not.
+fn refused_by(alloc: Global, source: &Index, doc: &Tree) -> Result<Option<Refusal>, OutOfMemory>
+    ensures { IfOk result (λ refused. refused ≡ spec_tried.refused_by (reading source.now.mapping source.now.stamp doc.now)) }
 {
     match read_doc(alloc, source.mapping(), source.stamp(), doc) {
-        Ok(values) => Ok(Ok(values)),
-        Err(error) => Ok(Err(doc_refusal(error)?)),
+        Ok(_) => Ok(None),
+        Err(error) => Ok(Some(doc_refusal(error)?)),
     }
 }
 
@@ -230,18 +220,15 @@ fn keep_document(
     source: &Index,
     shard: u32,
     seq: u64,
-    more: u64,
-    values: List<(Text, Value)>,
     id: Text,
     doc: Tree,
     given: &Given,
 ) -> Result<Result<Entry, Refusal>, OutOfMemory>
     requires source { slice_get (catalogue (reverse core.now.history)) index ≡ Some source.now }
-    requires read { reading source.now.mapping source.now.stamp doc ≡ Ok values }
     requires id { IsDocumentId id }
     requires doc { IsObject doc }
     requires actor { given.now.actor ≤ 15 }
-    ensures asked { IfOk result (λ tried. tried ≡ spec_tried.document_new (reverse core.now.history) given.now.actor given.now.at_ms more index source.now shard seq id doc) }
+    ensures asked { IfOk result (λ tried. tried ≡ spec_tried.document_new (reverse core.now.history) given.now.actor given.now.at_ms index source.now shard seq id doc) }
     ensures ready { IfOk result (IsReadyDocument (reverse core.now.history)) }
 {
     if MOST_DOCUMENTS <= seq {
@@ -251,11 +238,8 @@ fn keep_document(
     }
     core.is_taken();
     text_is_utf8(&id);
-    let kept = keep_next(alloc, core, source, given, values, doc)?;
-    line_is_read(&kept.tree);
-    if !is_let_in(core, index, more, &kept.values) {
-        return Ok(Err(Refusal::UnsupportedYet));
-    }
+    let tree = keep_next(alloc, core, source, given, doc)?;
+    line_is_read(&tree);
     Ok(Ok(entry_after(
         core,
         given,
@@ -264,70 +248,38 @@ fn keep_document(
             shard,
             seq,
             id,
-            tree: kept.tree,
+            tree,
         },
     )))
 }
 
-// A document as an index keeps it.
-#[derive(Drop)]
-struct Kept {
-    tree: Tree,
-    // Its values, none where the index does not keep it.
-    values: Option<List<(Text, Value)>>,
-}
-
-fn is_let_in(core: &Core, index: u32, more: u64, values: &Option<List<(Text, Value)>>) -> bool
-    ensures { result ≡ spec_tried.fits_by (written (read (reverse core.now.history))) (transforms (reverse core.now.history)) more index values.now }
-{
-    match values {
-        None => false,
-        Some(values) => core.lets_in(index, more, values),
-    }
-}
-
-// A document with these values as an index keeps it next.
+// A document as an index keeps it next.
 fn keep_next(
     alloc: Global,
     core: &Core,
     source: &Index,
     given: &Given,
-    values: List<(Text, Value)>,
     doc: Tree,
-) -> Result<Kept, OutOfMemory>
-    requires read { reading source.now.mapping source.now.stamp doc ≡ Ok values }
+) -> Result<Tree, OutOfMemory>
     requires doc { IsObject doc }
-    ensures tree { IfOk result (λ kept. kept.tree ≡ spec.kept_tree source.now.stamp (moment_after (reverse core.now.history) given.now.at_ms) doc) }
-    ensures values { IfOk result (λ kept. kept.values ≡ written_in source.now (moment_after (reverse core.now.history) given.now.at_ms) kept.tree) }
-    ensures line { IfOk result (λ kept. IsLine kept.tree) }
+    ensures tree { IfOk result (λ tree. tree ≡ spec.kept_tree source.now.stamp (moment_after (reverse core.now.history) given.now.at_ms) doc) }
+    ensures line { IfOk result IsLine }
 {
     let at_ms = moment_of(core, given);
-    keep(alloc, source, at_ms, values, doc)
+    keep(alloc, source, at_ms, doc)
 }
 
-// A document with these values as an index keeps it at a moment.
-fn keep(
-    alloc: Global,
-    source: &Index,
-    at_ms: i64,
-    values: List<(Text, Value)>,
-    doc: Tree,
-) -> Result<Kept, OutOfMemory>
-    requires read { reading source.now.mapping source.now.stamp doc ≡ Ok values }
+// A document as an index keeps it at a moment.
+fn keep(alloc: Global, source: &Index, at_ms: i64, doc: Tree) -> Result<Tree, OutOfMemory>
     requires doc { IsObject doc }
-    ensures tree { IfOk result (λ kept. kept.tree ≡ spec.kept_tree source.now.stamp at_ms doc) }
-    ensures values { IfOk result (λ kept. kept.values ≡ written_in source.now at_ms kept.tree) }
-    ensures line { IfOk result (λ kept. IsLine kept.tree) }
+    ensures tree { IfOk result (λ tree. tree ≡ spec.kept_tree source.now.stamp at_ms doc) }
+    ensures line { IfOk result IsLine }
 {
     match source.stamp() {
-        None => Ok(Kept {
-            tree: doc,
-            values: Some(values),
-        }),
+        None => Ok(doc),
         Some(stamp) => {
             let tree = stamped(alloc, doc, stamp, at_ms)?;
-            let values = kept_values(alloc, source, at_ms, &tree)?;
-            Ok(Kept { tree, values })
+            Ok(tree)
         }
     }
 }

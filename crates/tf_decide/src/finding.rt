@@ -1,8 +1,12 @@
 // What commands find in a core.
 ghost use Rattle.std.specs.Prelude.{◌≡◌, reverse};
+ghost use Rattle.std.specs.Option.{option_map};
 ghost use Rattle.tf_history.specs.Catalogue.{catalogue, number_of};
+ghost use Rattle.tf_history.specs.Lives.{life};
+ghost use Rattle.tf_core.specs.Legal.{read};
 ghost use Rattle.tf_decide.specs.Asking as spec;
 
+use crate::standing::Standing;
 use tf_core::Core;
 use tf_model::Text;
 
@@ -29,4 +33,17 @@ pub fn is_index(core: &Core, name: &Text) -> bool
     ensures { result ≡ spec.is_index (reverse core.now.history) name.now }
 {
     core.index_number(name).is_some()
+}
+
+/// How the transform with an id stands.
+pub fn standing_of(core: &Core, id: &Text) -> Option<Standing>
+    ensures { result ≡ option_map spec.standing_of (life id.now (read (reverse core.now.history))) }
+{
+    match core.transform(id) {
+        None => None,
+        Some(transform) => Some(Standing {
+            state: transform.state,
+            is_over: transform.is_over(),
+        }),
+    }
 }

@@ -1,27 +1,25 @@
 // The replies to commands.
-ghost use Rattle.std.specs.Prelude.{◌≡◌, ◌++◌, IfOk, length, map, reverse, take};
+ghost use Rattle.std.specs.Prelude.{◌≡◌, ◌++◌, IfOk, length, map, reverse};
 ghost use Rattle.std.specs.List.{AllByRecursion, find};
 ghost use Rattle.tf_history.specs.Lives.{life, state_turned};
 ghost use Rattle.tf_history.specs.Lives.Turn.{Starts};
-ghost use Rattle.tf_history.specs.Meaning.{row_key};
 ghost use Rattle.tf_history.specs.Transforms.{transforms};
 ghost use Rattle.tf_model.specs.declared.task.State.TheVariants as state;
 ghost use Rattle.tf_reply.specs.declared.replies.Reply.TheVariants as reply;
 ghost use Rattle.tf_decide.specs.declared.asked.Answer.TheVariants as answer;
 ghost use Rattle.tf_core.specs.Legal.{read};
 ghost use Rattle.tf_core.specs.Lookups.{is_into};
+ghost use Rattle.tf_core.specs.Places.{AreAscending};
 ghost use Rattle.tf_decide.specs.Ready.{Follows};
 ghost use Rattle.tf_decide.specs.Rows.{IsShown};
 ghost use Rattle.tf_decide.specs.Replying as spec;
 
-use crate::asked::Answer;
+use crate::asked::{Answer, Search};
+use crate::hits::{key_of, shown_rows};
 use std::alloc::Global;
 use tf_core::{Core, Transform};
-use tf_model::{Config, Entry, Key, List, OutOfMemory, Row, Shape, State, Text, Tree, copy_key};
+use tf_model::{Config, Entry, List, OutOfMemory, Row, Shape, State, Text, Tree, copy_key};
 use tf_reply::{Hit, Reply, pivot_source};
-
-// How many rows a search shows.
-const MOST_HITS: usize = 10;
 
 /// The reply to a line where these entries come behind the history of a core.
 pub fn reply_to(
@@ -54,7 +52,7 @@ pub fn reply_to(
         }
         Answer::Started(id) => Ok(started(core, line, no, entries, id)),
         Answer::Settled => Ok(Reply::Settled { line, no }),
-        Answer::Shown(name) => shown(alloc, core, line, no, entries, &name),
+        Answer::Shown(search) => shown(alloc, core, line, no, entries, &search),
         Answer::Refused(refusal) => Ok(Reply::Refused { line, no, refusal }),
     }
 }
@@ -106,25 +104,25 @@ fn started_state(running: bool) -> State
     }
 }
 
-// The first ten rows of a destination.
+// The rows of a destination that a search shows.
 fn shown(
     alloc: Global,
     core: &Core,
     line: u64,
     no: u64,
     entries: &List<Entry>,
-    name: &Text,
+    search: &Search,
 ) -> Result<Reply, OutOfMemory>
-    requires { Follows entries.now (answer.Shown name.now) }
-    ensures { IfOk result (λ reply. reply ≡ spec.found line no (reverse entries.now ++ reverse core.now.history) (find (is_into name.now) (transforms (reverse entries.now ++ reverse core.now.history)))) }
+    requires { Follows entries.now (answer.Shown search.now) }
+    ensures { IfOk result (λ reply. reply ≡ spec.found line no search.now (reverse entries.now ++ reverse core.now.history) (find (is_into search.now.dest) (transforms (reverse entries.now ++ reverse core.now.history)))) }
 {
     core.is_taken();
-    match core.transform_into(name) {
+    match core.transform_into(&search.dest) {
         None => {
             let hits = List::new(alloc);
             Ok(found(line, no, hits, 0))
         }
-        Some(transform) => rows_found(alloc, line, no, transform),
+        Some(transform) => rows_found(alloc, line, no, search, transform),
     }
 }
 
@@ -143,27 +141,24 @@ fn rows_found(
     alloc: Global,
     line: u64,
     no: u64,
+    search: &Search,
     transform: &Transform,
 ) -> Result<Reply, OutOfMemory>
-    requires { AllByRecursion IsShown transform.now.rows.items }
-    ensures { IfOk result (λ reply. reply ≡ spec.found_rows line no transform.now.config transform.now.rows.items) }
+    requires shown { AllByRecursion IsShown transform.now.rows.items }
+    requires ascending { AreAscending transform.now.rows.items }
+    ensures { IfOk result (λ reply. reply ≡ spec.found_rows line no search.now transform.now.config transform.now.rows.items) }
 {
     let rows = transform.rows.as_slice();
-    let hits = hits_of(alloc, &transform.config, rows)?;
+    let hits = hits_of(alloc, &transform.config, shown_rows(search, rows))?;
     Ok(found(line, no, hits, rows.len() as u64))
 }
 
 fn hits_of(alloc: Global, config: &Config, rows: &[Row]) -> Result<List<Hit>, OutOfMemory>
     requires { AllByRecursion IsShown rows.now }
-    ensures { IfOk result (λ hits. hits ≡ map (spec.hit_of config.now) (take 10 rows.now)) }
+    ensures { IfOk result (λ hits. hits ≡ map (spec.hit_of config.now) rows.now) }
 {
     let mut hits = List::new(alloc);
-    let shown = if rows.len() < MOST_HITS {
-        rows.len()
-    } else {
-        MOST_HITS
-    };
-    for row in &rows[..shown] {
+    for row in rows {
         hits.push(hit_of(alloc, config, row)?)?;
     }
     Ok(hits)
@@ -176,14 +171,6 @@ fn hit_of(alloc: Global, config: &Config, row: &Row) -> Result<Hit, OutOfMemory>
     let key = copy_key(alloc, key_of(row))?;
     let source = source_of(alloc, config, row)?;
     Ok(Hit { key, source })
-}
-
-fn key_of(row: &Row) -> &Key
-    ensures { result.now ≡ row_key row.now }
-{
-    match row {
-        Row::Pivot { key, .. } | Row::Latest { key, .. } => key,
-    }
 }
 
 fn source_of(alloc: Global, config: &Config, row: &Row) -> Result<Tree, OutOfMemory>

@@ -1,34 +1,34 @@
 // Rows that are searched.
-ghost use Rattle.std.specs.Prelude.{◌≡◌, ◌&&◌, is_none, nat_eq, reverse};
+ghost use Rattle.std.specs.Prelude.{◌≡◌, IfOk, reverse};
 ghost use Rattle.tf_decide.specs.Asking as spec;
 ghost use Rattle.tf_decide.specs.Ready.{IsReady};
 
-use crate::asked::{Answer, Asked};
-use crate::finding::{is_dest, is_index};
-use crate::making::{refused, told, unsupported};
+use crate::asked::{Answer, Asked, Search};
+use crate::finding::is_index;
+use crate::making::{refused, told};
 use std::alloc::Global;
 use tf_core::Core;
-use tf_model::{Text, Tree, is_index_name};
+use tf_group::read_key;
+use tf_model::{Config, Key, OutOfMemory, Text, Tree, is_index_name};
 use tf_reply::Refusal;
 
-// How many rows a search shows.
-const HITS: u32 = 10;
-
-/// The first ten rows of a destination are searched; an index cannot be.
-pub fn ask_search(alloc: Global, core: &Core, name: Text, size: u32, after: Option<Tree>) -> Asked
-    ensures asked { result ≡ spec.asked_search (reverse core.now.history) name size after }
-    ensures ready { IsReady (reverse core.now.history) result }
+/// Rows of a destination are searched; an index cannot be. `after` is an array.
+pub fn ask_search(
+    alloc: Global,
+    core: &Core,
+    name: Text,
+    size: u32,
+    after: Option<Tree>,
+) -> Result<Asked, OutOfMemory>
+    ensures asked { IfOk result (λ asked. asked ≡ spec.asked_search (reverse core.now.history) name size after) }
+    ensures ready { IfOk result (IsReady (reverse core.now.history)) }
 {
     if !may_be_searched(core, &name) {
-        return refused(alloc, Refusal::BadName { name });
+        return Ok(refused(alloc, Refusal::BadName { name }));
     }
-    if !is_dest(core, &name) {
-        return refused(alloc, Refusal::NoSuchIndex { name });
-    }
-    if is_built_search(size, &after) {
-        told(alloc, Answer::Shown(name))
-    } else {
-        unsupported(alloc)
+    match core.transform_into(&name) {
+        None => Ok(refused(alloc, Refusal::NoSuchIndex { name })),
+        Some(transform) => search_by(alloc, core, name, size, &transform.config, after),
     }
 }
 
@@ -39,8 +39,43 @@ fn may_be_searched(core: &Core, name: &Text) -> bool
     is_index_name(name.as_str()) && !is_index(core, name)
 }
 
-fn is_built_search(size: u32, after: &Option<Tree>) -> bool
-    ensures { result ≡ (nat_eq size 10 && is_none after.now) }
+// Rows of a destination that is grouped by a configuration.
+fn search_by(
+    alloc: Global,
+    core: &Core,
+    name: Text,
+    size: u32,
+    config: &Config,
+    after: Option<Tree>,
+) -> Result<Asked, OutOfMemory>
+    ensures asked { IfOk result (λ asked. asked ≡ spec.search_by (reverse core.now.history) name size config.now after) }
+    ensures ready { IfOk result (IsReady (reverse core.now.history)) }
 {
-    size == HITS && after.is_none()
+    match after {
+        None => Ok(shows(alloc, name, size, None)),
+        Some(array) => match key_after(alloc, core, config, &array)? {
+            None => Ok(refused(alloc, Refusal::BadAfter)),
+            key => Ok(shows(alloc, name, size, key)),
+        },
+    }
+}
+
+fn shows(alloc: Global, dest: Text, size: u32, after: Option<Key>) -> Asked
+    ensures { result ≡ spec.shows dest size after }
+{
+    told(alloc, Answer::Shown(Search { dest, after, size }))
+}
+
+// The key that an array is by a configuration.
+fn key_after(
+    alloc: Global,
+    core: &Core,
+    config: &Config,
+    array: &Tree,
+) -> Result<Option<Key>, OutOfMemory>
+    ensures { IfOk result (λ key. key ≡ spec.key_after (reverse core.now.history) config.now array.now) }
+{
+    let indices = core.catalogue()?;
+    let fields = indices.fields(alloc, config.sources.as_slice())?;
+    read_key(alloc, config, &fields, array)
 }

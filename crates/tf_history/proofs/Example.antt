@@ -336,13 +336,14 @@ unfolding key_cmp value_cmp value_of keys_of key_of floor_to aligned retained
 finish_allowed = record { running = (refl, refl); active = refl; nothing_left = refl }
 
 index_legal : IsLegalPast plainly (drop 6 entries)
+unfolding IsStrictlySortedBy
 index_legal = (
   tt,
   record {
     moment = (omega (arith, ints), omega (arith, ints));
     later = tt;
     actor = omega arith;
-    fits = record { well_formed = refl; free = refl; few = omega arith; shards = (omega arith, omega arith); fields = omega arith; field_names = refl; stamp = tt; slow = refl };
+    fits = record { well_formed = refl; free = refl; few = omega arith; shards = (omega arith, omega arith); fields = omega arith; field_names = refl; ascending = ((refl, (refl, tt)), ((refl, tt), (tt, tt))); stamp = tt; slow = refl };
     allowed = tt;
   },
 )

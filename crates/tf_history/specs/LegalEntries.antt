@@ -1,7 +1,10 @@
 -- Which entries of a history are legal: what the laws use of legality, and beside it the rules for moments, actors,
 -- indices, documents, configurations and rows.
-use Rattle.std.specs.Prelude.{◌≡◌, ℕ, ℤ, ◌<◌, ◌≤◌, ◌^◌, pos, negsuc, ⊤, Bool, true, false, not, ◌&&◌, ◌||◌, nat_eq, List, [], ◌∷◌, length, IsSomeAnd, IfSome, slice_get, count_by}
+use Rattle.std.specs.Prelude.{◌≡◌, ℕ, ℤ, ◌<◌, ◌≤◌, ◌^◌, pos, negsuc, ⊤, Bool, true, false, not, ◌&&◌, ◌||◌, nat_eq, List, [], ◌∷◌, length, IsSomeAnd, IfSome, slice_get, count_by, map}
 use Rattle.std.specs.List.{list_any, list_all, AllByRecursion}
+use Rattle.std.specs.List.Sorted.{IsStrictlySortedBy}
+use Rattle.std.specs.Cmp.Lexicographic.{slice_cmp}
+use Rattle.std.specs.Ordering.{nat_cmp}
 use Rattle.std.specs.Str.{bytes_eq}
 use Rattle.tf_model.specs.declared.doc.Doc.{Doc}
 use Rattle.tf_model.specs.declared.tree.Tree.{Tree}
@@ -60,6 +63,7 @@ pub record MayIndex (reading : Reading) (past : List Entry) (s : SourceIndex) : 
   pub shards : (1 ≤ s.shards) × (s.shards ≤ 16)
   pub fields : length s.mapping.fields ≤ 64
   pub field_names : list_all (λ (f : List ℕ × FieldType). reading.is_field f.0) s.mapping.fields ≡ true
+  pub ascending : IsStrictlySortedBy (slice_cmp nat_cmp) (map (λ (f : List ℕ × FieldType). f.0) s.mapping.fields)
   pub stamp : IfSome s.stamp (λ field. has_date s.mapping field ≡ true)
   pub slow : s.quick ≡ false
 

@@ -5,10 +5,13 @@ use Rattle.tf_model.specs.declared.task.State.{State}
 use Rattle.tf_group.specs.Ids.{id_text}
 use Rattle.tf_command.specs.declared.command.LineError.{LineError}
 use Rattle.tf_command.specs.declared.command.LineError.TheVariants as line_error
+use Rattle.tf_config.specs.declared.error.ConfigError.{ConfigError}
+use Rattle.tf_config.specs.declared.error.ConfigError.TheVariants as config_error
 use Rattle.tf_mapping.specs.declared.error.DocError.{DocError}
 use Rattle.tf_mapping.specs.declared.error.DocError.TheVariants as doc_error
 use Rattle.tf_mapping.specs.declared.error.MappingError.{MappingError}
 use Rattle.tf_mapping.specs.declared.error.MappingError.TheVariants as mapping_error
+use Rattle.tf_reply.specs.declared.faults.ConfigFault.TheVariants as config
 use Rattle.tf_reply.specs.declared.faults.DocFault.TheVariants as doc
 use Rattle.tf_reply.specs.declared.faults.MappingFault.TheVariants as mapping
 use Rattle.tf_reply.specs.declared.faults.Refusal.{Refusal}
@@ -34,6 +37,25 @@ mapping_refusal (mapping_error.TwicePath what) = Some (refusal.Mapping mapping.T
 mapping_refusal (mapping_error.TooManyFields what) = Some (refusal.Mapping mapping.TooManyFields what)
 mapping_refusal (mapping_error.BadStamp what) = Some (refusal.Mapping mapping.BadStamp what)
 mapping_refusal mapping_error.Memory = None
+
+abbrev pub config_refusal : ConfigError → Option Refusal
+config_refusal (config_error.UnknownSetting what) = Some (refusal.Config config.UnknownSetting what)
+config_refusal (config_error.Missing what) = Some (refusal.Config config.Missing what)
+config_refusal (config_error.WrongKind what) = Some (refusal.Config config.WrongKind what)
+config_refusal (config_error.BothOrNeither what) = Some (refusal.Config config.BothOrNeither what)
+config_refusal (config_error.TooMany what) = Some (refusal.Config config.TooMany what)
+config_refusal (config_error.BadName what) = Some (refusal.Config config.BadName what)
+config_refusal (config_error.NoSuchIndex what) = Some (refusal.Config config.NoSuchIndex what)
+config_refusal (config_error.TwiceName what) = Some (refusal.Config config.TwiceName what)
+config_refusal (config_error.NoSuchField what) = Some (refusal.Config config.NoSuchField what)
+config_refusal (config_error.FieldTypes what) = Some (refusal.Config config.FieldTypes what)
+config_refusal (config_error.NotADate what) = Some (refusal.Config config.NotADate what)
+config_refusal (config_error.NotANumber what) = Some (refusal.Config config.NotANumber what)
+config_refusal (config_error.BadInterval what) = Some (refusal.Config config.BadInterval what)
+config_refusal (config_error.BadSpan what) = Some (refusal.Config config.BadSpan what)
+config_refusal (config_error.PageSizeRange what) = Some (refusal.Config config.PageSizeRange what)
+config_refusal (config_error.FrequencyRange what) = Some (refusal.Config config.FrequencyRange what)
+config_refusal config_error.Memory = None
 
 abbrev pub doc_refusal : DocError → Option Refusal
 doc_refusal (doc_error.ManyValues field) = Some (refusal.Document doc.ManyValues field)

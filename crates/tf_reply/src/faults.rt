@@ -4,6 +4,7 @@ ghost use Rattle.std.specs.Result.{result_ok};
 ghost use Rattle.tf_reply.specs.Refusals as spec;
 
 use tf_command::LineError;
+use tf_config::ConfigError;
 use tf_mapping::{DocError, MappingError};
 use tf_model::{OutOfMemory, State, SumRange, Text};
 
@@ -169,6 +170,32 @@ pub fn mapping_refusal(error: MappingError) -> Result<Refusal, OutOfMemory>
         MappingError::Memory => return Err(OutOfMemory),
     };
     Ok(Refusal::Mapping { fault, what })
+}
+
+/// The refusal of a configuration. Want of memory is handed on. Takes no memory.
+pub fn config_refusal(error: ConfigError) -> Result<Refusal, OutOfMemory>
+    ensures { result_ok result ≡ spec.config_refusal error }
+{
+    let (fault, what) = match error {
+        ConfigError::UnknownSetting { what } => (ConfigFault::UnknownSetting, what),
+        ConfigError::Missing { what } => (ConfigFault::Missing, what),
+        ConfigError::WrongKind { what } => (ConfigFault::WrongKind, what),
+        ConfigError::BothOrNeither { what } => (ConfigFault::BothOrNeither, what),
+        ConfigError::TooMany { what } => (ConfigFault::TooMany, what),
+        ConfigError::BadName { what } => (ConfigFault::BadName, what),
+        ConfigError::NoSuchIndex { what } => (ConfigFault::NoSuchIndex, what),
+        ConfigError::TwiceName { what } => (ConfigFault::TwiceName, what),
+        ConfigError::NoSuchField { what } => (ConfigFault::NoSuchField, what),
+        ConfigError::FieldTypes { what } => (ConfigFault::FieldTypes, what),
+        ConfigError::NotADate { what } => (ConfigFault::NotADate, what),
+        ConfigError::NotANumber { what } => (ConfigFault::NotANumber, what),
+        ConfigError::BadInterval { what } => (ConfigFault::BadInterval, what),
+        ConfigError::BadSpan { what } => (ConfigFault::BadSpan, what),
+        ConfigError::PageSizeRange { what } => (ConfigFault::PageSizeRange, what),
+        ConfigError::FrequencyRange { what } => (ConfigFault::FrequencyRange, what),
+        ConfigError::Memory => return Err(OutOfMemory),
+    };
+    Ok(Refusal::Config { fault, what })
 }
 
 /// The refusal of a document that its mapping does not read. Want of memory is handed on. Takes no memory.

@@ -20,7 +20,8 @@ mod tasks;
 
 pub use answers::reply_tree;
 pub use faults::{
-    ConfigFault, DocFault, Limit, MappingFault, Refusal, doc_refusal, line_refusal, mapping_refusal,
+    ConfigFault, DocFault, Limit, MappingFault, Refusal, config_refusal, doc_refusal, line_refusal,
+    mapping_refusal,
 };
 pub use lines::{reply_line, write_reply};
 pub use replies::{Checkpoint, Hit, Item, Reply, Running, Stats};

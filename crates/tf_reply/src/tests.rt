@@ -1,11 +1,12 @@
 // Replies and their lines, worked out by hand.
 use crate::{
-    Checkpoint, ConfigFault, Hit, Item, Limit, Refusal, Reply, Running, Stats, doc_refusal,
+    Checkpoint, Hit, Item, Limit, Refusal, Reply, Running, Stats, config_refusal, doc_refusal,
     line_refusal, mapping_refusal, pivot_source, write_reply,
 };
 use std::alloc::Global;
 use std::test::Fail;
 use tf_command::LineError;
+use tf_config::ConfigError;
 use tf_mapping::{DocError, MappingError};
 use tf_model::{
     Agg, AggKind, Group, GroupKind, Key, List, OutOfMemory, State, SumRange, Text, Tree, Value,
@@ -186,14 +187,7 @@ fn write_refusals(alloc: Global, out: &mut String) -> Result<(), OutOfMemory> {
     let field = text(alloc, "ts")?;
     refused(alloc, doc_refusal(DocError::OutOfRange { field })?, out)?;
     let what = text(alloc, "dest.index")?;
-    refused(
-        alloc,
-        Refusal::Config {
-            fault: ConfigFault::Missing,
-            what,
-        },
-        out,
-    )?;
+    refused(alloc, config_refusal(ConfigError::Missing { what })?, out)?;
     refused(
         alloc,
         Refusal::Limit {

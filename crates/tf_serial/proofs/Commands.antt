@@ -1,5 +1,5 @@
 -- What a command does that settles, and one that does not.
-use Rattle.std.proofs.Common.{◌≡◌, ℕ, ℤ, ◌++◌, Bool, true, false, List, length, Ok, Err, OnOk, refl, sym, ap, subst, ◌∙◌}
+use Rattle.std.proofs.Common.{◌≡◌, ℤ, ◌++◌, Bool, true, false, List, length, Ok, Err, OnOk, refl, sym, ap, subst, ◌∙◌}
 use Rattle.std.proofs.lemmas.List.{reverse-append, reverse-reverse}
 use Rattle.std.specs.Prelude.{IfOk, Result, if◌then◌else◌, reverse}
 use Rattle.tf_model.specs.declared.entry.Entry.{Entry}
@@ -18,20 +18,7 @@ use Rattle.tf_serial.specs.Script.{after_command, asked, given, is_settle, reply
 
 asks_nothing : (past : List Entry) (moment : ℤ) (o : Op) → is_settle o ≡ true → decide.asked past 0 moment o ≡ decide.tells answer.Settled
 asks_nothing past moment op.Settle is = refl
-asks_nothing past moment (op.CreateIndex name tree shards stamp quick) is = absurd (let wrong : false ≡ true = is in cc)
-asks_nothing past moment (op.Index name id tree) is = absurd (let wrong : false ≡ true = is in cc)
-asks_nothing past moment (op.Bulk name docs) is = absurd (let wrong : false ≡ true = is in cc)
-asks_nothing past moment (op.PutTransform id config) is = absurd (let wrong : false ≡ true = is in cc)
-asks_nothing past moment (op.Start id) is = absurd (let wrong : false ≡ true = is in cc)
-asks_nothing past moment (op.Search name size o) is = absurd (let wrong : false ≡ true = is in cc)
-asks_nothing past moment (op.Delete id) is = absurd (let wrong : false ≡ true = is in cc)
-asks_nothing past moment (op.Stop id wait force) is = absurd (let wrong : false ≡ true = is in cc)
-asks_nothing past moment (op.Reset id) is = absurd (let wrong : false ≡ true = is in cc)
-asks_nothing past moment (op.ScheduleNow id) is = absurd (let wrong : false ≡ true = is in cc)
-asks_nothing past moment (op.Step id) is = absurd (let wrong : false ≡ true = is in cc)
-asks_nothing past moment (op.Await id checkpoint) is = absurd (let wrong : false ≡ true = is in cc)
-asks_nothing past moment (op.Stats id) is = absurd (let wrong : false ≡ true = is in cc)
-asks_nothing past moment (op.Preview config) is = absurd (let wrong : false ≡ true = is in cc)
+asks_nothing past moment _ is = absurd (let wrong : false ≡ true = is in cc)
 
 -- a settling asks for no entry
 pub settling_asks : (past : List Entry) (command : Command) → is_settle command.op ≡ true → asked past command ≡ decide.tells answer.Settled

@@ -1,8 +1,8 @@
 -- A history that goes on, and the Pages in it.
-use Rattle.std.proofs.Common.{◌≡◌, ℕ, ◌+◌, ◌≤◌, List, [], ◌∷◌, ◌++◌, refl, sym, ap, subst, ◌∙◌, arith, append_assoc, length-append}
+use Rattle.std.proofs.Common.{◌≡◌, ℕ, ◌≤◌, List, [], ◌∷◌, ◌++◌, refl, sym, ap, subst, ◌∙◌, arith, length-append}
 use Rattle.std.specs.List.{AllByRecursion}
 use Rattle.std.specs.Prelude.{Result, Ok, Err, length, reverse}
-use Rattle.std.proofs.lemmas.List.{append-nil, length-reverse, reverse-append}
+use Rattle.std.proofs.lemmas.List.{length-reverse, reverse-append}
 use mathlib.Core.List.{IsPrefix}
 use Rattle.tf_model.specs.declared.entry.Entry.{Entry}
 use Rattle.tf_disk.specs.Disk.{Meaning}
@@ -17,7 +17,7 @@ use Rattle.tf_store.specs.declared.state.Store.{Store}
 use Rattle.tf_serial.specs.Parts.{GoesOn, IsRightEntry, Runs}
 use Rattle.tf_serial.proofs.RightLines.{IsQuietEntry, quiet_kind}
 use Rattle.tf_serial.proofs.SpelledPasts.{all_reverse}
-use Rattle.tf_serial.proofs.Prefixes.{prefix_self, prefix_through, reverse_more}
+use Rattle.tf_serial.proofs.Prefixes.{prefix_self, prefix_through}
 
 length_read : (past : List Entry) → length (read past) ≡ length past
 length_read [] = refl
@@ -86,32 +86,24 @@ module _ {D : Type 0} {g : Ghosts D} (m : Meaning D) where
     later = omega (arith, p.later, q.later);
   }
 
+  -- the history goes on, and all else is as it was
+  runs_on : (old new : Store D g) → GoesOn (history_of old) (history_of new) → (opened_at new ≡ opened_at old) × (opened_with new ≡ opened_with old) → found_of new ≡ found_of old
+      → m.faults (disk_of old) ≤ m.faults (disk_of new) → Runs m old new
+  runs_on old new history opened found later = record { history = history; opened = opened.0; opened_count = opened.1; found = found; later = later }
+
   pub runs_itself : (old : Store D g) → Runs m old old
-  runs_itself old = record { history = goes_itself (history_of old); opened = refl; opened_count = refl; found = refl; later = omega arith }
+  runs_itself old = runs_on old old (goes_itself (history_of old)) (refl, refl) refl (omega arith)
 
   -- one entry more, where it is right
   pub runs_entry : (old new : Store D g) (e : Entry) → history_of new ≡ history_of old ++ e ∷ [] → IsRightEntry (reverse (history_of old)) e → (opened_at new ≡ opened_at old) × (opened_with new ≡ opened_with old)
       → found_of new ≡ found_of old → m.faults (disk_of old) ≤ m.faults (disk_of new) → Runs m old new
-  runs_entry old new e grown right opened found later = record {
-    history = subst (λ now. GoesOn (history_of old) now) (sym grown) (goes_entry (history_of old) e right);
-    opened = opened.0;
-    opened_count = opened.1;
-    found = found;
-    later = later;
-  }
+  runs_entry old new e grown right = runs_on old new (subst (λ now. GoesOn (history_of old) now) (sym grown) (goes_entry (history_of old) e right))
 
   -- the same history
   pub runs_same : (old new : Store D g) → history_of new ≡ history_of old → (opened_at new ≡ opened_at old) × (opened_with new ≡ opened_with old) → found_of new ≡ found_of old
       → m.faults (disk_of old) ≤ m.faults (disk_of new) → Runs m old new
-  runs_same old new same opened found later = record {
-    history = subst (λ now. GoesOn (history_of old) now) (sym same) (goes_itself (history_of old));
-    opened = opened.0;
-    opened_count = opened.1;
-    found = found;
-    later = later;
-  }
+  runs_same old new same = runs_on old new (subst (λ now. GoesOn (history_of old) now) (sym same) (goes_itself (history_of old)))
 
   pub runs_submit : {X : Type 0} (r : Result X StoreError) (old new : Store D g) (number : ℕ) (es : List Entry) → history_of new ≡ history_after (history_of old) es (counted number r) → AllByRecursion IsQuietEntry es
       → (opened_at new ≡ opened_at old) × (opened_with new ≡ opened_with old) → found_of new ≡ found_of old → m.faults (disk_of old) ≤ m.faults (disk_of new) → Runs m old new
-  runs_submit r old new number es is quiet opened found later =
-      record { history = goes_by r number (history_of old) es (history_of new) is quiet; opened = opened.0; opened_count = opened.1; found = found; later = later }
+  runs_submit r old new number es is quiet = runs_on old new (goes_by r number (history_of old) es (history_of new) is quiet)

@@ -1,4 +1,5 @@
 pub mod Grouped
+pub mod MoveByMove
 pub mod Prefixes
 pub mod RightLines
 pub mod SplitTexts
@@ -7,9 +8,12 @@ pub mod SpelledPasts
 pub mod GoingOn
 pub mod Frames
 pub mod Stopping
+pub mod OwnMoves
 pub mod NextMoves
-pub mod MovesLeft
+pub mod OneMove
+pub mod Passes
 pub mod Settled
 pub mod LinesDone
 pub mod Commands
 pub mod LinesRead
+mod Examples

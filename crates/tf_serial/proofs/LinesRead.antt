@@ -1,5 +1,5 @@
 -- A line that is read.
-use Rattle.std.proofs.Common.{◌≡◌, ℕ, Bool, true, false, List, [], ◌∷◌, ◌++◌, Some, None, Ok, Err, refl, sym, ap, subst}
+use Rattle.std.proofs.Common.{◌≡◌, ℕ, true, false, List, [], ◌∷◌, ◌++◌, Err, sym, ap, subst}
 use Rattle.std.specs.Prelude.{IsSome, Result, if◌then◌else◌}
 use Rattle.tf_model.specs.declared.entry.Entry.{Entry}
 use Rattle.tf_command.specs.Commands.{Answers, command_of}
@@ -14,13 +14,8 @@ use Rattle.tf_serial.specs.Script.{after_line, after_reading, reply_to, reply_to
 
 -- a refusal that is told is what the line is
 pub answered : (wanted : Result Command LineError) (error : LineError) → IsSome (line_refusal error) → Answers wanted (Err error) → wanted ≡ Err error
-answered wanted (line_error.LineTooLong bytes) some is = sym is
-answered wanted line_error.BadJson some is = sym is
-answered wanted (line_error.Fraction path) some is = sym is
-answered wanted line_error.UnknownOp some is = sym is
-answered wanted (line_error.MissingField field) some is = sym is
-answered wanted (line_error.BadValue field) some is = sym is
 answered wanted line_error.Memory some is = absurd (let wrong : false ≡ true = some in cc)
+answered wanted _ some is = sym is
 
 module _ (past : List Entry) (number : ℕ) (line : List ℕ) (is : is_blank line ≡ false) where
   -- a line that is not blank

@@ -1,5 +1,5 @@
 -- The entry of a next move has a spelling and is right.
-use Rattle.std.proofs.Common.{◌≡◌, ℕ, ◌+◌, ◌<◌, ◌≤◌, ◌^◌, ℤ, Bool, true, false, cond, List, [], ◌∷◌, length, Option, Some, None, refl, sym, ap, ◌∙◌, subst, arith}
+use Rattle.std.proofs.Common.{◌≡◌, ℕ, ◌<◌, ◌≤◌, ◌^◌, ℤ, true, false, cond, List, [], ◌∷◌, length, Option, Some, None, refl, sym, ap, ◌∙◌, subst, arith}
 use Rattle.std.specs.List.{AllByRecursion, find}
 use Rattle.std.specs.Option.{option_and_then, option_map}
 use Rattle.std.specs.Prelude.{IfSome, IsSomeAnd, is_none, negsuc, pos, reverse}
@@ -8,12 +8,9 @@ use Rattle.std.specs.Int.RustNames.{FitsSigned}
 use Rattle.std.proofs.lemmas.Int.{ints}
 use Rattle.std.proofs.lemmas.Option.{same_Some}
 use Rattle.std.proofs.lemmas.Slice.Eq.{bytes_eq-Decides}
-use Rattle.tf_model.specs.Conditions.{IsSpan, IsBetween}
-use Rattle.tf_model.specs.Keys.{keys_of}
-use Rattle.tf_model.specs.declared.config.Config.{Config}
+use Rattle.tf_model.specs.Conditions.{IsBetween, IsDate, IsSpan}
 use Rattle.tf_model.specs.declared.entry.Entry.{Entry}
 use Rattle.tf_model.specs.declared.entry.Kind.{Kind}
-use Rattle.tf_model.specs.declared.entry.Kind.TheVariants as kind
 use Rattle.tf_model.specs.declared.entry.Row.{Row}
 use Rattle.tf_model.specs.declared.entry.Row.TheVariants as row
 use Rattle.tf_model.specs.declared.value.Value.{Value}
@@ -21,12 +18,12 @@ use Rattle.tf_model.specs.declared.value.Value.TheVariants as value
 use Rattle.tf_event.specs.Entries.{FitsEntry, FitsKind}
 use Rattle.tf_event.specs.Values.{FitsRow, FitsValue}
 use Rattle.tf_event.specs.declared.grammar.Grammar.TheVariants.{First}
-use Rattle.tf_history.specs.Catalogue.{SourceIndex, catalogue}
+use Rattle.tf_history.specs.Catalogue.{catalogue}
 use Rattle.tf_history.specs.Events.{Deed}
-use Rattle.tf_history.specs.Events.Deed.{Index, Write, Put, Delete, Reset, Start, StopAsked, Stopped, Schedule, Fail, Begin, Page, Finish}
 use Rattle.tf_history.specs.Histories.{IsRightEvent}
-use Rattle.tf_history.specs.Legality.{IsAllowed, MayBegin, MayPage, MayFinish}
+use Rattle.tf_history.specs.Legality.{IsAllowed, MayBegin, MayFail, MayPage, MayFinish}
 use Rattle.tf_history.specs.Legality as legality
+use Rattle.tf_history.specs.LegalEntries.{IsRowValue}
 use Rattle.tf_history.specs.Lives.{Life, documents, is_same, last_bound, life}
 use Rattle.tf_history.specs.Reading.{deed_of}
 use Rattle.tf_history.specs.Transforms.{PutTransform, meaning_of, transform_of, transforms}
@@ -35,16 +32,17 @@ use Rattle.tf_history.proofs.MovesLaw.{moves_are_legal}
 use Rattle.tf_core.specs.Built.{is_built}
 use Rattle.tf_core.specs.BuiltPast.{IsBuiltPut}
 use Rattle.tf_core.specs.Legal.{IsTaken, IsTakenHistory, IsTakenPast, read, reading}
-use Rattle.tf_core.specs.Moves.{kind_of, moment_after, move, moved}
-use Rattle.tf_core.specs.Texts.{HasShortRows, HasTexts, IsShort, IsTextOf, IsTextRow}
+use Rattle.tf_core.specs.Moves.{kind_of, moment_after, moved}
+use Rattle.tf_core.specs.Texts.{HasTexts, IsPartOf, IsShort, IsShortKind, IsShortPut, IsShortRow}
 use Rattle.tf_mapping.specs.Documents.{values_of}
-use Rattle.tf_core.proofs.AllowedKinds.{once, read_is_legal, unbounded}
 use Rattle.tf_core.proofs.BuiltPast.{built_past}
-use Rattle.tf_core.proofs.Fitting.{IsBuiltForm, built_form}
+use Rattle.tf_core.proofs.FirstCheckpoint.{once, read_is_legal, unbounded}
+use Rattle.tf_core.proofs.Fitting.{form_of, put_in_range}
 use Rattle.tf_store.specs.Standing.{AreSpelled}
 use Rattle.tf_serial.specs.Moves.{next_move}
 use Rattle.tf_serial.specs.Parts.{IsNext, IsRightEntry}
-use Rattle.tf_serial.proofs.SpelledPasts.{ids_are_short, texts_are_short}
+use Rattle.tf_serial.proofs.OwnMoves.{IsOwnMove, begins, pages, finishes, fails, stops, deed_back, own_move}
+use Rattle.tf_serial.proofs.SpelledPasts.{IsSpelledPut, puts_are_spelled, texts_are_short}
 
 -- ---- the transform of a life
 pub record HasPut (past : List Entry) (id : List ℕ) (l : Life) : Type 0 where
@@ -73,19 +71,16 @@ module _ (past : List Entry) (taken : IsTakenPast past) (id : List ℕ) (l : Lif
   abbrev put_is : HasPut past id l
   put_is = put_of_life past id l is
 
-  form : IsBuiltForm put_is.put.config
-  form = built_form put_is.put.config (found_has (IsBuiltPut (catalogue past) (documents (read past))) id (transforms past) put_is.put (built_past past taken).each_put put_is.there).0.form
+  built : IsBuiltPut (catalogue past) put_is.put
+  built = (found_has (IsBuiltPut (catalogue past)) id (transforms past) put_is.put (built_past past taken).each_put put_is.there).0
 
   pub is_batch : l.meaning.is_batch ≡ true
-  is_batch = sym (ap (λ m. m.is_batch) put_is.means) ∙ ap is_none form.batch
+  is_batch = sym (ap (λ m. m.is_batch) put_is.means) ∙ ap is_none (form_of put_is.put.config built.form).batch
 
-  pub has_size : l.meaning.page_size ≡ 500
-  has_size = sym (ap (λ m. m.page_size) put_is.means) ∙ form.page_size
+  pub has_rows : 0 < l.meaning.page_size
+  has_rows = let sized = (put_in_range (catalogue past) put_is.put built).page_size in omega (arith, ap (λ m. m.page_size) put_is.means, sized.0)
 
-  pub keys_are : (c : Config) × (l.meaning.keys ≡ keys_of c)
-  keys_are = (put_is.put.config, sym (ap (λ m. m.keys) put_is.means))
-
-  pub few_begun : length l.checkpoints ≤ 1
+  few_begun : length l.checkpoints ≤ 1
   few_begun = (once past id l taken is is_batch).0
 
   -- the numbers of checkpoints
@@ -100,34 +95,53 @@ module _ (past : List Entry) (taken : IsTakenPast past) (id : List ℕ) (l : Lif
   running_fits n r = omega (arith, r.1, few_begun)
 
 -- ---- rows
-value_fits : (v : Value) → IsTextOf IsShort (Some v) → FitsValue v
-value_fits value.Null h = absurd h
-value_fits (value.Bool b) h = absurd h
-value_fits (value.Int n) h = absurd h
-value_fits (value.Date ms) h = absurd h
-value_fits (value.Str s) h = h
-
-values_fit : (vs : List Value) → AllByRecursion (λ v. IsTextOf IsShort (Some v)) vs → AllByRecursion FitsValue vs
-values_fit [] h = tt
-values_fit (v ∷ vs) h = (value_fits v h.0, values_fit vs h.1)
-
 wide : (n : ℤ) → IsBetween (negsuc 9223372036854775807) (pos 9223372036854775807) n → FitsSigned w128 n
 wide (pos n) h = record { sfits = omega (arith, ints) }
 wide (negsuc n) h = record { sfits = omega (arith, ints) }
+
+part_number_fits : (n : ℤ) → IsBetween (negsuc 18446744073709551615) (pos 9223372036854775807) n → FitsSigned w128 n
+part_number_fits (pos n) h = record { sfits = omega (arith, ints) }
+part_number_fits (negsuc n) h = record { sfits = omega (arith, ints) }
+
+sum_fits : (n : ℤ) → IsBetween (negsuc 170141183460469231731687303715884105727) (pos 170141183460469231731687303715884105727) n → FitsSigned w128 n
+sum_fits (pos n) h = record { sfits = omega (arith, ints) }
+sum_fits (negsuc n) h = record { sfits = omega (arith, ints) }
+
+date_fits : (ms : ℤ) → IsDate ms → FitsSigned w64 ms
+date_fits (pos n) h = record { sfits = omega (arith, ints) }
+date_fits (negsuc n) h = record { sfits = omega (arith, ints) }
 
 span_fits : (ms : ℤ) → IsSpan ms → FitsSigned w64 ms
 span_fits (pos n) h = record { sfits = omega (arith, ints) }
 span_fits (negsuc n) h = record { sfits = omega (arith, ints) }
 
-row_fits : (r : Row) → IsTextRow IsShort r → FitsRow r
-row_fits (row.Pivot k values) h =
-    let one : length values ≡ 1 = ap length h.1.1 in (
-      (omega (arith, h.0.0), values_fit k.parts h.0.1),
-      (omega (arith, one), subst (AllByRecursion FitsValue) (sym h.1.1) (wide h.1.0 h.1.2, tt)),
-    )
+part_fits : (v : Value) → IsPartOf IsShort v → FitsValue v
+part_fits value.Null h = tt
+part_fits (value.Bool b) h = tt
+part_fits (value.Int n) h = part_number_fits n h
+part_fits (value.Date ms) h = date_fits ms h
+part_fits (value.Str s) h = h
+
+parts_fit : (vs : List Value) → AllByRecursion (IsPartOf IsShort) vs → AllByRecursion FitsValue vs
+parts_fit [] h = tt
+parts_fit (v ∷ vs) h = (part_fits v h.0, parts_fit vs h.1)
+
+value_fits : (v : Value) → IsRowValue v → FitsValue v
+value_fits value.Null h = tt
+value_fits (value.Bool b) h = tt
+value_fits (value.Int n) h = wide n h
+value_fits (value.Date ms) h = date_fits ms h
+value_fits (value.Str s) h = absurd h
+
+values_fit : (vs : List Value) → AllByRecursion IsRowValue vs → AllByRecursion FitsValue vs
+values_fit [] h = tt
+values_fit (v ∷ vs) h = (value_fits v h.0, values_fit vs h.1)
+
+row_fits : (r : Row) → IsShortRow r → FitsRow r
+row_fits (row.Pivot k values) h = ((h.0, parts_fit k.parts h.1), (h.2, values_fit values h.3))
 row_fits (row.Latest k index shard seq) h = absurd h
 
-rows_fit : (rows : List Row) → AllByRecursion (IsTextRow IsShort) rows → AllByRecursion FitsRow rows
+rows_fit : (rows : List Row) → AllByRecursion IsShortRow rows → AllByRecursion FitsRow rows
 rows_fit [] h = tt
 rows_fit (r ∷ rows) h = (row_fits r h.0, rows_fit rows h.1)
 
@@ -135,7 +149,7 @@ rows_fit (r ∷ rows) h = (row_fits r h.0, rows_fit rows h.1)
 pub record IsMoveOf (given : ℤ) (past : List Entry) (id : List ℕ) (e : Entry) : Type 0 where
   pub deed : Deed
   pub next : legality.next_move id (read past) (moment_after past given) ≡ Some deed
-  pub kind_is : kind_of deed ≡ Some e.kind
+  pub own : IsOwnMove id deed e.kind
   pub at : e.at_ms ≡ moment_after past given
 
 pub move_is : (given : ℤ) (past : List Entry) (id : List ℕ) (e : Entry) → next_move given id past ≡ Some e → IsMoveOf given past id e
@@ -145,51 +159,11 @@ move_is given past id e is = by (legality.next_move id (read past) (moment_after
     by_kind deed next None kind_is made = absurd (let none : ◌≡◌ {A = Option Entry} None (Some e) = made in cc)
     by_kind deed next (Some k) kind_is made =
         let same : moved (moment_after past given) k ≡ e = same_Some (moved (moment_after past given) k) e made in
-        record { deed = deed; next = next; kind_is = kind_is ∙ ap (λ (e : Entry). Some e.kind) same; at = sym (ap (λ (e : Entry). e.at_ms) same) }
+        record { deed = deed; next = next; own = own_move id deed e.kind (kind_is ∙ ap (λ (e : Entry). Some e.kind) same) (read past) (moment_after past given) next; at = sym (ap (λ (e : Entry). e.at_ms) same) }
 
     by : (o : Option Deed) → legality.next_move id (read past) (moment_after past given) ≡ o → option_map (moved (moment_after past given)) (option_and_then kind_of o) ≡ Some e → IsMoveOf given past id e
     by None next made = absurd (let none : ◌≡◌ {A = Option Entry} None (Some e) = made in cc)
     by (Some deed) next made = by_kind deed next (kind_of deed) refl made
-
--- the deed of the entry is that of the move
-pub deed_back : (indices : List SourceIndex) (deed : Deed) (k : Kind) → kind_of deed ≡ Some k → deed_of values_of indices k ≡ deed
-deed_back indices (Begin id n bound) k e = ap (deed_of values_of indices) (sym (same_Some (kind.Begin id n bound) k e))
-deed_back indices (Page id n rows) k e = ap (deed_of values_of indices) (sym (same_Some (kind.Page id n rows) k e))
-deed_back indices (Finish id n) k e = ap (deed_of values_of indices) (sym (same_Some (kind.Finish id n) k e))
-deed_back indices (Fail id n key name value) k e = ap (deed_of values_of indices) (sym (same_Some (kind.Fail id n key name value) k e))
-deed_back indices (Stopped id) k e = ap (deed_of values_of indices) (sym (same_Some (kind.Stopped id) k e))
-deed_back indices Index k e = absurd (let none : ◌≡◌ {A = Option Kind} None (Some k) = e in cc)
-deed_back indices (Write d) k e = absurd (let none : ◌≡◌ {A = Option Kind} None (Some k) = e in cc)
-deed_back indices (Put id c) k e = absurd (let none : ◌≡◌ {A = Option Kind} None (Some k) = e in cc)
-deed_back indices (Delete id) k e = absurd (let none : ◌≡◌ {A = Option Kind} None (Some k) = e in cc)
-deed_back indices (Reset id) k e = absurd (let none : ◌≡◌ {A = Option Kind} None (Some k) = e in cc)
-deed_back indices (Start id) k e = absurd (let none : ◌≡◌ {A = Option Kind} None (Some k) = e in cc)
-deed_back indices (StopAsked id wait) k e = absurd (let none : ◌≡◌ {A = Option Kind} None (Some k) = e in cc)
-deed_back indices (Schedule id) k e = absurd (let none : ◌≡◌ {A = Option Kind} None (Some k) = e in cc)
-
--- a move that is built
-abbrev is_move : Kind → Bool
-is_move (kind.Stopped id) = true
-is_move (kind.Begin id n bound) = true
-is_move (kind.Page id n rows) = true
-is_move (kind.Finish id n) = true
-is_move _ = false
-
-move_built : (past : List Entry) (deed : Deed) (k : Kind) → kind_of deed ≡ Some k → is_built past k ≡ true → is_move k ≡ true
-move_built past (Begin id n bound) k e built = ap is_move (sym (same_Some (kind.Begin id n bound) k e))
-move_built past (Page id n rows) k e built = ap is_move (sym (same_Some (kind.Page id n rows) k e))
-move_built past (Finish id n) k e built = ap is_move (sym (same_Some (kind.Finish id n) k e))
-move_built past (Stopped id) k e built = ap is_move (sym (same_Some (kind.Stopped id) k e))
-move_built past (Fail id n key name value) k e built =
-    absurd (let wrong : false ≡ true = ap (is_built past) (same_Some (kind.Fail id n key name value) k e) ∙ built in cc)
-move_built past Index k e built = absurd (let none : ◌≡◌ {A = Option Kind} None (Some k) = e in cc)
-move_built past (Write d) k e built = absurd (let none : ◌≡◌ {A = Option Kind} None (Some k) = e in cc)
-move_built past (Put id c) k e built = absurd (let none : ◌≡◌ {A = Option Kind} None (Some k) = e in cc)
-move_built past (Delete id) k e built = absurd (let none : ◌≡◌ {A = Option Kind} None (Some k) = e in cc)
-move_built past (Reset id) k e built = absurd (let none : ◌≡◌ {A = Option Kind} None (Some k) = e in cc)
-move_built past (Start id) k e built = absurd (let none : ◌≡◌ {A = Option Kind} None (Some k) = e in cc)
-move_built past (StopAsked id wait) k e built = absurd (let none : ◌≡◌ {A = Option Kind} None (Some k) = e in cc)
-move_built past (Schedule id) k e built = absurd (let none : ◌≡◌ {A = Option Kind} None (Some k) = e in cc)
 
 record HasLife (P : Life → Type 0) (o : Option Life) : Type 0 where
   pub found : Life
@@ -200,43 +174,37 @@ life_there : (P : Life → Type 0) (o : Option Life) → IsSomeAnd o P → HasLi
 life_there P None h = absurd h
 life_there P (Some l) h = record { found = l; is = refl; holds = h }
 
-module _ (past : List Entry) (taken : IsTakenPast past) (ids : AllByRecursion (λ (p : PutTransform). IsShort p.id) (transforms past)) where
+module _ (past : List Entry) (taken : IsTakenPast past) (spelled : AllByRecursion IsSpelledPut (transforms past)) where
   id_fits : (id : List ℕ) (l : Life) → life id (read past) ≡ Some l → IsShort id
   id_fits id l is =
       let put = put_of_life past id l is in
-      let own = found_has (λ (p : PutTransform). IsShort p.id) id (transforms past) put.put ids put.there in
-      subst IsShort (sym own.1) own.0
+      let own = found_has IsSpelledPut id (transforms past) put.put spelled put.there in
+      subst IsShort (sym own.1) own.0.0
 
-  kind_fits : (moment : ℤ) (k : Kind) → is_move k ≡ true → IsAllowed moment (deed_of values_of (catalogue past) k) (read past) → HasShortRows k → FitsKind First k
-  kind_fits moment (kind.Stopped id) moves allowed short =
+  kind_fits : (moment : ℤ) {id : List ℕ} {deed : Deed} {k : Kind} → IsOwnMove id deed k → is_built k ≡ true → IsAllowed moment (deed_of values_of (catalogue past) k) (read past) → IsShortKind k → FitsKind First k
+  kind_fits moment {id} stops built allowed short =
       let h = life_there (λ l. legality.may_stop l.state l ≡ true) (life id (read past)) allowed in
       id_fits id h.found h.is
-  kind_fits moment (kind.Begin id n bound) moves allowed short =
+  kind_fits moment {id} (begins n bound) built allowed short =
       let h = life_there (λ l. MayBegin l (documents (read past)) n bound moment) (life id (read past)) allowed in
       let fits = begin_fits past taken id h.found h.is n bound moment h.holds in
       (id_fits id h.found h.is, fits.0, subst (λ b. IfSome b (FitsSigned w64)) (sym fits.1) tt)
-  kind_fits moment (kind.Page id n rows) moves allowed short =
+  kind_fits moment {id} (pages n rows) built allowed short =
       let h = life_there (λ l. MayPage l n rows) (life id (read past)) allowed in
       (id_fits id h.found h.is, running_fits past taken id h.found h.is n h.holds.running, (omega (arith, short.0), rows_fit rows short.1))
-  kind_fits moment (kind.Finish id n) moves allowed short =
+  kind_fits moment {id} (finishes n) built allowed short =
       let h = life_there (λ l. MayFinish l n) (life id (read past)) allowed in
       (id_fits id h.found h.is, running_fits past taken id h.found h.is n h.holds.running)
-  kind_fits moment (kind.Index name shards mapping stamp quick) moves allowed short = absurd (let wrong : false ≡ true = moves in cc)
-  kind_fits moment (kind.Write index shard seq id tree) moves allowed short = absurd (let wrong : false ≡ true = moves in cc)
-  kind_fits moment (kind.Put id config) moves allowed short = absurd (let wrong : false ≡ true = moves in cc)
-  kind_fits moment (kind.Delete id) moves allowed short = absurd (let wrong : false ≡ true = moves in cc)
-  kind_fits moment (kind.Start id) moves allowed short = absurd (let wrong : false ≡ true = moves in cc)
-  kind_fits moment (kind.StopAsked id wait) moves allowed short = absurd (let wrong : false ≡ true = moves in cc)
-  kind_fits moment (kind.Schedule id) moves allowed short = absurd (let wrong : false ≡ true = moves in cc)
-  kind_fits moment (kind.Fail id n key name sum) moves allowed short = absurd (let wrong : false ≡ true = moves in cc)
-  kind_fits moment (kind.Reset id) moves allowed short = absurd (let wrong : false ≡ true = moves in cc)
+  kind_fits moment {id} (fails n key name value) built allowed short =
+      let h = life_there (λ l. MayFail l n key name value) (life id (read past)) allowed in
+      (id_fits id h.found h.is, running_fits past taken id h.found h.is n h.holds.running, (short.0, parts_fit key.parts short.1), short.2, sum_fits value short.3)
 
-  entry_fits : (given : ℤ) (id : List ℕ) (e : Entry) → IsMoveOf given past id e → IsTaken past e → HasShortRows e.kind → FitsEntry First e
+  entry_fits : (given : ℤ) (id : List ℕ) (e : Entry) → IsMoveOf given past id e → IsTaken past e → IsShortKind e.kind → FitsEntry First e
   unfolding reading
   entry_fits given id e m t short = record {
     at_ms = span_fits e.at_ms t.legal.moment;
     actor = omega (arith, t.legal.actor);
-    kind = kind_fits e.at_ms e.kind (move_built past m.deed e.kind m.kind_is t.built) t.legal.allowed short;
+    kind = kind_fits e.at_ms m.own t.built t.legal.allowed short;
   }
 
   sized : (id : List ℕ) → IfSome (life id (read past)) (λ l. 0 < l.meaning.page_size)
@@ -244,19 +212,24 @@ module _ (past : List Entry) (taken : IsTakenPast past) (ids : AllByRecursion (�
     where
       by : (o : Option Life) → life id (read past) ≡ o → IfSome o (λ l. 0 < l.meaning.page_size)
       by None is = tt
-      by (Some l) is = omega (arith, has_size past taken id l is)
+      by (Some l) is = has_rows past taken id l is
 
   entry_right : (given : ℤ) (id : List ℕ) (e : Entry) → IsMoveOf given past id e → IsRightEntry past e
   entry_right given id e m =
-      subst (λ d. IsRightEvent d (read past)) (sym (deed_back (catalogue past) m.deed e.kind m.kind_is))
+      subst (λ d. IsRightEvent d (read past)) (sym (deed_back (catalogue past) m.own))
       (moves_are_legal (read past) id (moment_after past given) m.deed (read_is_legal past taken) (sized id) m.next).1
 
-  next_known : (given : ℤ) (id : List ℕ) (o : Option Entry) → o ≡ next_move given id past → IfSome o (IsTaken past) → IfSome o (λ (e : Entry). HasShortRows e.kind) → IfSome o (IsNext past)
+  next_known : (given : ℤ) (id : List ℕ) (o : Option Entry) → o ≡ next_move given id past → IfSome o (IsTaken past) → IfSome o (λ (e : Entry). IsShortKind e.kind) → IfSome o (IsNext past)
   next_known given id None is t short = tt
   next_known given id (Some e) is t short = let m = move_is given past id e (sym is) in record { taken = t; fits = entry_fits given id e m t short; right = entry_right given id e m }
 
+configs_short : (puts : List PutTransform) → AllByRecursion IsSpelledPut puts → AllByRecursion IsShortPut puts
+configs_short [] all = tt
+configs_short (p ∷ puts) all = (all.0.1, configs_short puts all.1)
+
 -- the entry of the next move is taken, has a spelling and is right
 pub move_is_next : (given : ℤ) (history : List Entry) (id : List ℕ) (o : Option Entry) → IsTakenHistory history → AreSpelled history → o ≡ next_move given id (reverse history) → IfSome o (IsTaken (reverse history))
-    → (AllByRecursion (HasTexts IsShort) (documents (read (reverse history))) → IfSome o (λ (e : Entry). HasShortRows e.kind)) → IfSome o (IsNext (reverse history))
+    → (AllByRecursion (HasTexts IsShort) (documents (read (reverse history))) → AllByRecursion IsShortPut (transforms (reverse history)) → IfSome o (λ (e : Entry). IsShortKind e.kind)) → IfSome o (IsNext (reverse history))
 move_is_next given history id o taken spelled is t short =
-    next_known (reverse history) taken (ids_are_short history spelled) given id o is t (short (texts_are_short history spelled))
+    let puts = puts_are_spelled history spelled in
+    next_known (reverse history) taken puts given id o is t (short (texts_are_short history spelled) (configs_short (transforms (reverse history)) puts))

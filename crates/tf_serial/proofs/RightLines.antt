@@ -1,24 +1,29 @@
 -- No entry that a command asks for is a Page.
-use Rattle.std.proofs.Common.{◌≡◌, ℕ, ℤ, ◌^◌, Bool, true, false, cond, ◌&&◌, ◌||◌, List, [], ◌∷◌, length, Option, Some, None, Ok, Err, refl}
+use Rattle.std.proofs.Common.{ℕ, ℤ, ◌^◌, Bool, true, false, cond, List, [], ◌∷◌, length, Option, Some, None, Ok, Err}
 use Rattle.std.specs.List.{AllByRecursion, find}
 use Rattle.std.specs.Option.{option_map}
-use Rattle.std.specs.Prelude.{Result, is_none, is_some, nat_eq, nat_le, nat_lt, not, slice_get}
+use Rattle.std.specs.Prelude.{Result, is_some, nat_le, nat_lt, not, slice_get}
 use Rattle.tf_model.specs.declared.config.Config.{Config}
 use Rattle.tf_model.specs.declared.entry.Entry.{Entry}
 use Rattle.tf_model.specs.declared.entry.Kind.{Kind}
 use Rattle.tf_model.specs.declared.entry.Kind.TheVariants as kind
 use Rattle.tf_model.specs.declared.query.Mapping.{Mapping}
+use Rattle.tf_model.specs.declared.task.State.{State}
+use Rattle.tf_model.specs.declared.task.State.TheVariants as state
 use Rattle.tf_model.specs.declared.tree.Tree.{Tree}
+use Rattle.tf_model.specs.declared.value.Key.{Key}
 use Rattle.tf_model.specs.declared.value.Value.{Value}
 use Rattle.tf_model.specs.Names.{is_index_name, is_transform_id}
 use Rattle.tf_command.specs.declared.command.Op.{Op}
 use Rattle.tf_command.specs.declared.command.Op.TheVariants as op
+use Rattle.tf_config.specs.declared.error.ConfigError.{ConfigError}
+use Rattle.tf_config.specs.Reading as configs
 use Rattle.tf_mapping.specs.declared.error.DocError.{DocError}
 use Rattle.tf_mapping.specs.declared.error.MappingError.{MappingError}
 use Rattle.tf_mapping.specs.Documents.{reading}
 use Rattle.tf_mapping.specs.Mappings as mappings
 use Rattle.tf_mapping.specs.Routes.{shard_of}
-use Rattle.tf_reply.specs.Refusals.{mapping_refusal}
+use Rattle.tf_reply.specs.Refusals.{config_refusal, mapping_refusal}
 use Rattle.tf_reply.specs.declared.faults.Limit.TheVariants as limit
 use Rattle.tf_reply.specs.declared.faults.Refusal.{Refusal}
 use Rattle.tf_reply.specs.declared.faults.Refusal.TheVariants as refusal
@@ -27,16 +32,15 @@ use Rattle.tf_history.specs.Histories.{IsRightEvent}
 use Rattle.tf_history.specs.LegalEntries.{has_id, is_free}
 use Rattle.tf_history.specs.Lives.{documents, life}
 use Rattle.tf_history.specs.Reading.{deed_of}
-use Rattle.tf_history.specs.Transforms.{transform_of}
-use Rattle.tf_core.specs.Built.{fits_indices, is_built_config}
+use Rattle.tf_history.specs.Transforms.{PutTransform, transform_of, transforms}
+use Rattle.tf_core.specs.Built.{is_built_config}
 use Rattle.tf_core.specs.Legal.{read}
-use Rattle.tf_core.specs.Moves.{moment_after}
+use Rattle.tf_core.specs.Lookups.{is_into}
+use Rattle.tf_core.specs.Sources.{catalogued}
 use Rattle.tf_mapping.specs.Documents.{values_of}
 use Rattle.tf_decide.specs.Asking as decide
-use Rattle.tf_decide.specs.Configs.{config_of, configured}
-use Rattle.tf_decide.specs.declared.asked.Answer.TheVariants as answer
 use Rattle.tf_decide.specs.declared.asked.Asked.{Asked}
-use Rattle.tf_decide.specs.declared.config.ConfigForm.{ConfigForm}
+use Rattle.tf_decide.specs.declared.standing.Standing.{Standing}
 
 -- a kind that is no Page
 abbrev pub IsQuiet : Kind → Type 0
@@ -48,18 +52,7 @@ IsQuietEntry e = IsQuiet e.kind
 
 pub quiet_kind : (past : List Entry) (k : Kind) → IsQuiet k → IsRightEvent (deed_of values_of (catalogue past) k) (read past)
 quiet_kind past (kind.Page id n rows) quiet = absurd quiet
-quiet_kind past (kind.Index name shards mapping stamp quick) quiet = tt
-quiet_kind past (kind.Write index shard seq id tree) quiet = tt
-quiet_kind past (kind.Put id config) quiet = tt
-quiet_kind past (kind.Start id) quiet = tt
-quiet_kind past (kind.Delete id) quiet = tt
-quiet_kind past (kind.StopAsked id wait) quiet = tt
-quiet_kind past (kind.Stopped id) quiet = tt
-quiet_kind past (kind.Schedule id) quiet = tt
-quiet_kind past (kind.Begin id n bound) quiet = tt
-quiet_kind past (kind.Finish id n) quiet = tt
-quiet_kind past (kind.Fail id n key name sum) quiet = tt
-quiet_kind past (kind.Reset id) quiet = tt
+quiet_kind past _ quiet = tt
 
 abbrev AreQuiet : Asked → Type 0
 AreQuiet a = AllByRecursion IsQuietEntry a.entries
@@ -78,25 +71,23 @@ accepted_quiet [] quiet = tt
 accepted_quiet (Ok e ∷ tried) quiet = (quiet.0, accepted_quiet tried quiet.1)
 accepted_quiet (Err r ∷ tried) quiet = accepted_quiet tried quiet.1
 
-with_quiet : (seq : ℕ) (fits : Bool) (e : Entry) → IsQuietEntry e → IsQuietTry (decide.document_with seq fits e)
-with_quiet seq fits e quiet =
-    either IsQuietTry (nat_lt seq (2 ^ 31)) (cond fits (Ok e) (Err refusal.UnsupportedYet)) (Err (refusal.Limit limit.Documents))
-    (either IsQuietTry fits (Ok e) (Err refusal.UnsupportedYet) quiet tt) tt
+with_quiet : (seq : ℕ) (e : Entry) → IsQuietEntry e → IsQuietTry (decide.document_with seq e)
+with_quiet seq e quiet = either IsQuietTry (nat_lt seq (2 ^ 31)) (Ok e) (Err (refusal.Limit limit.Documents)) quiet tt
 
-new_quiet : (id : List ℕ) (place : Option (ℕ × ℕ)) (seq : ℕ) (fits : Bool) (e : Entry) → IsQuietEntry e → IsQuietTry (decide.document_new id place seq fits e)
-new_quiet id (Some place) seq fits e quiet = tt
-new_quiet id None seq fits e quiet = with_quiet seq fits e quiet
+new_quiet : (id : List ℕ) (place : Option (ℕ × ℕ)) (seq : ℕ) (e : Entry) → IsQuietEntry e → IsQuietTry (decide.document_new id place seq e)
+new_quiet id (Some place) seq e quiet = tt
+new_quiet id None seq e quiet = with_quiet seq e quiet
 
-by_quiet : (id : List ℕ) (r : Result (List (List ℕ × Value)) DocError) (place : Option (ℕ × ℕ)) (seq : ℕ) (fits : Bool) (e : Entry) → IsQuietEntry e → IsQuietTry (decide.document_by id r place seq fits e)
-by_quiet id (Ok values) place seq fits e quiet = new_quiet id place seq fits e quiet
-by_quiet id (Err error) place seq fits e quiet = tt
+by_quiet : (id : List ℕ) (r : Result (List (List ℕ × Value)) DocError) (place : Option (ℕ × ℕ)) (seq : ℕ) (e : Entry) → IsQuietEntry e → IsQuietTry (decide.document_by id r place seq e)
+by_quiet id (Ok values) place seq e quiet = new_quiet id place seq e quiet
+by_quiet id (Err error) place seq e quiet = tt
 
 document_quiet : (past : List Entry) (actor : ℕ) (given : ℤ) (index : ℕ) (s : SourceIndex) (id : List ℕ) (tree : Tree) → IsQuietTry (decide.asked_document past actor given index s id tree)
 document_quiet past actor given index s id tree =
     let shard = shard_of id s.shards in
     let seq = decide.next_seq past index shard in
     by_quiet id (reading s.mapping s.stamp tree) (option_map decide.place_of (find (has_id index id) (documents (read past)))) seq
-    (decide.is_let_in past given index s (decide.kept_tree s.stamp (moment_after past given) tree)) (decide.write_after past actor given index s shard seq id tree) tt
+    (decide.write_after past actor given index s shard seq id tree) tt
 
 documents_quiet : (past : List Entry) (actor : ℕ) (given : ℤ) (index : ℕ) (s : SourceIndex) (docs : List (List ℕ × Tree)) → AllByRecursion IsQuietTry (decide.asked_documents past actor given index s docs)
 documents_quiet past actor given index s [] = tt
@@ -143,37 +134,59 @@ module _ (past : List Entry) (actor : ℕ) (given : ℤ) where
       let read_mapping = mappings.reading stamp tree in
       either AreQuiet (is_index_name name) (decide.index_by past actor given name shards stamp read_mapping) (decide.refuses (refusal.BadName name)) (index_by_quiet name shards stamp read_mapping) tt
 
-  after_put_quiet : (id : List ℕ) (c : Config) → AreQuiet (decide.put_after past actor given id c)
-  after_put_quiet id c =
+  with_put_quiet : (id : List ℕ) (c : Config) → AreQuiet (decide.put_with past actor given id c)
+  with_put_quiet id c =
       let made = decide.put_made past actor given id c in
       let taken = decide.refuses (refusal.IndexExists c.dest) in
-      let last = cond (decide.can_read past c) made decide.unsupported in
-      let bad = is_some (transform_of id past) || not (is_built_config c && fits_indices c (catalogue past)) in
-      either AreQuiet bad decide.unsupported (cond (not (is_free c.dest past)) taken last) tt
-      (either AreQuiet (not (is_free c.dest past)) taken last tt (either AreQuiet (decide.can_read past c) made decide.unsupported (tt, tt) tt))
+      let many = decide.refuses (refusal.Limit limit.Transforms) in
+      let last = cond (is_built_config c) made decide.unsupported in
+      either AreQuiet (not (is_free c.dest past)) taken (cond (nat_le 64 (length (transforms past))) many last) tt
+      (either AreQuiet (nat_le 64 (length (transforms past))) many last tt (either AreQuiet (is_built_config c) made decide.unsupported (tt, tt) tt))
 
-  put_by_quiet : (id : List ℕ) (o : Option ConfigForm) → AreQuiet (decide.put_by past actor given id o)
-  put_by_quiet id None = tt
-  put_by_quiet id (Some form) = after_put_quiet id (configured form)
+  put_by_quiet : (id : List ℕ) (r : Result Config ConfigError) → AreQuiet (decide.put_by past actor given id r)
+  put_by_quiet id (Ok c) = with_put_quiet id c
+  put_by_quiet id (Err error) = refused_quiet (config_refusal error)
 
-  put_quiet : (id : List ℕ) (config : Tree) → AreQuiet (decide.asked_put past actor given id config)
-  put_quiet id config = either AreQuiet (is_transform_id id) (decide.put_by past actor given id (config_of config)) (decide.refuses (refusal.BadName id)) (put_by_quiet id (config_of config)) tt
+  put_quiet : (id : List ℕ) (tree : Tree) → AreQuiet (decide.asked_put past actor given id tree)
+  put_quiet id tree =
+      let read_config = configs.reading (catalogued (catalogue past)) true tree in
+      let used = decide.refuses (refusal.TransformExists id) in
+      either AreQuiet (is_transform_id id) (decide.put_new past actor given id tree) (decide.refuses (refusal.BadName id))
+      (either AreQuiet (is_some (transform_of id past)) used (decide.put_by past actor given id read_config) tt (put_by_quiet id read_config)) tt
+
+  start_by_quiet : (id : List ℕ) (s : State) (over : Bool) → AreQuiet (decide.start_by past actor given id s over)
+  start_by_quiet id state.Stopped true = tt
+  start_by_quiet id state.Stopped false = (tt, tt)
+  start_by_quiet id state.Failed over = tt
+  start_by_quiet id state.Started over = tt
+  start_by_quiet id state.Indexing over = tt
+  start_by_quiet id state.Stopping over = tt
+
+  start_of_quiet : (id : List ℕ) (o : Option Standing) → AreQuiet (decide.start_of past actor given id o)
+  start_of_quiet id None = tt
+  start_of_quiet id (Some s) = start_by_quiet id s.state s.is_over
 
   start_quiet : (id : List ℕ) → AreQuiet (decide.asked_start past actor given id)
   start_quiet id =
-      let made = decide.start_made past actor given id in
-      let may = decide.starts (life id (read past)) in
-      either AreQuiet (not (is_transform_id id)) (decide.refuses (refusal.BadName id)) (cond may made decide.unsupported) tt (either AreQuiet may made decide.unsupported (tt, tt) tt)
+      let standing = option_map decide.standing_of (life id (read past)) in
+      either AreQuiet (is_transform_id id) (decide.start_of past actor given id standing) (decide.refuses (refusal.BadName id)) (start_of_quiet id standing) tt
+
+  above_quiet : (name : List ℕ) (size : ℕ) (o : Option Key) → AreQuiet (decide.shows_above name size o)
+  above_quiet name size None = tt
+  above_quiet name size (Some key) = tt
+
+  search_by_quiet : (name : List ℕ) (size : ℕ) (c : Config) (o : Option Tree) → AreQuiet (decide.search_by past name size c o)
+  search_by_quiet name size c None = tt
+  search_by_quiet name size c (Some array) = above_quiet name size (decide.key_after past c array)
+
+  search_in_quiet : (name : List ℕ) (size : ℕ) (o : Option Tree) (p : Option PutTransform) → AreQuiet (decide.search_in past name size o p)
+  search_in_quiet name size o None = tt
+  search_in_quiet name size o (Some p) = search_by_quiet name size p.config o
 
   search_quiet : (name : List ℕ) (size : ℕ) (o : Option Tree) → AreQuiet (decide.asked_search past name size o)
   search_quiet name size o =
-      let bad = not (decide.may_be_searched past name) in
-      let plain = nat_eq size 10 && is_none o in
-      let shown = decide.tells (answer.Shown name) in
-      let last = cond plain shown decide.unsupported in
-      let none = decide.refuses (refusal.NoSuchIndex name) in
-      either AreQuiet bad (decide.refuses (refusal.BadName name)) (cond (not (decide.is_dest past name)) none last) tt
-      (either AreQuiet (not (decide.is_dest past name)) none last tt (either AreQuiet plain shown decide.unsupported tt tt))
+      let found = find (is_into name) (transforms past) in
+      either AreQuiet (decide.may_be_searched past name) (decide.search_in past name size o found) (decide.refuses (refusal.BadName name)) (search_in_quiet name size o found) tt
 
 -- ---- commands
 pub asked_quiet : (past : List Entry) (actor : ℕ) (given : ℤ) (o : Op) → AreQuiet (decide.asked past actor given o)

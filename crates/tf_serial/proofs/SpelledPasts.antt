@@ -1,4 +1,4 @@
--- The texts of the documents and the ids of the transforms of a history with a spelling.
+-- The texts of the documents, and the ids and configurations of the transforms, of a history with a spelling.
 use Rattle.std.proofs.Common.{◌≡◌, ℕ, ◌+◌, ◌-◌, ◌<◌, ◌^◌, arith, Bool, true, false, cond, List, [], ◌∷◌, ◌++◌, length, sym, subst}
 use Rattle.std.specs.List.{AllByRecursion}
 use Rattle.std.specs.Prelude.{filter, not, reverse, slice_get}
@@ -6,12 +6,19 @@ use Rattle.std.proofs.lemmas.List.{reverse-append}
 use Rattle.std.proofs.lemmas.Str.{IsUtf8-had}
 use Rattle.std.proofs.Math.Logic.{∥∥₁_elim, ∥∥₁_map}
 use Rattle.std.proofs.Math.Nat.{ℕ_set}
+use Rattle.tf_model.specs.declared.config.Agg.{Agg}
+use Rattle.tf_model.specs.declared.config.Config.{Config}
+use Rattle.tf_model.specs.declared.config.Shape.{Shape}
+use Rattle.tf_model.specs.declared.config.Shape.TheVariants as shape
 use Rattle.tf_model.specs.declared.doc.Doc.{Doc}
 use Rattle.tf_model.specs.declared.entry.Entry.{Entry}
 use Rattle.tf_model.specs.declared.entry.Kind.{Kind}
 use Rattle.tf_model.specs.declared.entry.Kind.TheVariants as kind
 use Rattle.tf_model.specs.declared.tree.Tree.{Tree}
+use Rattle.tf_model.specs.Keys.{groups_of}
+use Rattle.tf_model.specs.Rows.{aggs_of}
 use Rattle.tf_model.specs.Values.{value_of}
+use Rattle.tf_event.specs.Configs.{FitsAgg, FitsConfig, FitsShape}
 use Rattle.tf_event.specs.Trees.{FitsTree}
 use Rattle.tf_event.specs.Entries.{FitsEntry, FitsKind}
 use Rattle.tf_event.specs.declared.grammar.Grammar.TheVariants.{First}
@@ -20,7 +27,7 @@ use Rattle.tf_history.specs.Lives.{documents, is_same, writes}
 use Rattle.tf_history.specs.Reading.{deed_of}
 use Rattle.tf_history.specs.Transforms.{PutTransform, transforms, transforms_after}
 use Rattle.tf_core.specs.Legal.{read}
-use Rattle.tf_core.specs.Texts.{HasTexts, IsShort}
+use Rattle.tf_core.specs.Texts.{HasTexts, IsShort, IsShortConfig, IsShortPut}
 use Rattle.tf_mapping.specs.Documents.{values_of}
 use Rattle.tf_store.specs.Standing.{AreSpelled}
 use Rattle.tf_serial.proofs.MemberTexts.{read_is_short}
@@ -47,18 +54,7 @@ doc_is_short indices index shard seq id tree fits name text e = read_is_short tr
 
 written_short : (indices : List SourceIndex) (k : Kind) → FitsKind First k → AllByRecursion (HasTexts IsShort) (writes (deed_of values_of indices k))
 written_short indices (kind.Write index shard seq id tree) fits = (λ name text e. doc_is_short indices index shard seq id tree fits.4 name text e, tt)
-written_short indices (kind.Index name shards mapping stamp quick) fits = tt
-written_short indices (kind.Put id config) fits = tt
-written_short indices (kind.Delete id) fits = tt
-written_short indices (kind.Start id) fits = tt
-written_short indices (kind.StopAsked id wait) fits = tt
-written_short indices (kind.Stopped id) fits = tt
-written_short indices (kind.Schedule id) fits = tt
-written_short indices (kind.Begin id n bound) fits = tt
-written_short indices (kind.Page id n rows) fits = tt
-written_short indices (kind.Finish id n) fits = tt
-written_short indices (kind.Fail id n key name sum) fits = tt
-written_short indices (kind.Reset id) fits = tt
+written_short indices _ fits = tt
 
 docs_short : (past : List Entry) → AllByRecursion (FitsEntry First) past → AllByRecursion (HasTexts IsShort) (documents (read past))
 docs_short [] all = tt
@@ -66,27 +62,36 @@ docs_short (e ∷ past) all =
     all_append (HasTexts IsShort) (documents (read past)) (writes (deed_of values_of (catalogue past) e.kind)) (docs_short past all.1) (written_short (catalogue past) e.kind all.0.kind)
 
 -- ---- transforms
-abbrev HasShortId : PutTransform → Type 0
+abbrev pub HasShortId : PutTransform → Type 0
 HasShortId p = IsShort p.id
 
-put_short : (indices : List SourceIndex) (k : Kind) (before : List PutTransform) → FitsKind First k → AllByRecursion HasShortId before → AllByRecursion HasShortId (transforms_after indices k before)
-put_short indices (kind.Put id config) before fits all = (fits.0, all)
-put_short indices (kind.Delete id) before fits all = all_filter HasShortId (λ (p : PutTransform). not (is_same id p.id)) before all
-put_short indices (kind.Index name shards mapping stamp quick) before fits all = all
-put_short indices (kind.Write index shard seq id tree) before fits all = all
-put_short indices (kind.Start id) before fits all = all
-put_short indices (kind.StopAsked id wait) before fits all = all
-put_short indices (kind.Stopped id) before fits all = all
-put_short indices (kind.Schedule id) before fits all = all
-put_short indices (kind.Begin id n bound) before fits all = all
-put_short indices (kind.Page id n rows) before fits all = all
-put_short indices (kind.Finish id n) before fits all = all
-put_short indices (kind.Fail id n key name sum) before fits all = all
-put_short indices (kind.Reset id) before fits all = all
+-- a configuration with a spelling can be counted
+agg_name_short : (a : Agg) → FitsAgg a → IsShort a.name
+agg_name_short a fits = fits.name
 
-ids_short : (past : List Entry) → AllByRecursion (FitsEntry First) past → AllByRecursion HasShortId (transforms past)
-ids_short [] all = tt
-ids_short (e ∷ past) all = put_short (catalogue past) e.kind (transforms past) all.0.kind (ids_short past all.1)
+names_short : (aggs : List Agg) → AllByRecursion FitsAgg aggs → AllByRecursion (λ (a : Agg). IsShort a.name) aggs
+names_short [] all = tt
+names_short (a ∷ aggs) all = (agg_name_short a all.0, names_short aggs all.1)
+
+by_shape : (s : Shape) → FitsShape s → (length (groups_of s) < 2 ^ 32) × (length (aggs_of s) < 2 ^ 32) × AllByRecursion (λ (a : Agg). IsShort a.name) (aggs_of s)
+by_shape (shape.Pivot groups aggs) fits = (fits.0.0.0, fits.1.0.0, names_short aggs fits.1.0.1)
+by_shape (shape.Latest unique_key sort) fits = (omega arith, omega arith, tt)
+
+config_short : (c : Config) → FitsConfig First c → IsShortConfig c
+config_short c fits = let parts = by_shape c.shape fits.shape in record { groups = parts.0; aggs = parts.1; names = parts.2 }
+
+-- an id and a configuration with spellings
+abbrev pub IsSpelledPut : PutTransform → Type 0
+IsSpelledPut p = HasShortId p × IsShortPut p
+
+put_short : (indices : List SourceIndex) (k : Kind) (before : List PutTransform) → FitsKind First k → AllByRecursion IsSpelledPut before → AllByRecursion IsSpelledPut (transforms_after indices k before)
+put_short indices (kind.Put id config) before fits all = ((fits.0, config_short config fits.1), all)
+put_short indices (kind.Delete id) before fits all = all_filter IsSpelledPut (λ (p : PutTransform). not (is_same id p.id)) before all
+put_short indices _ before fits all = all
+
+puts_short : (past : List Entry) → AllByRecursion (FitsEntry First) past → AllByRecursion IsSpelledPut (transforms past)
+puts_short [] all = tt
+puts_short (e ∷ past) all = put_short (catalogue past) e.kind (transforms past) all.0.kind (puts_short past all.1)
 
 -- ---- what is known to be there
 not_over : (n most : ℕ) → n < most → (n + 1) - most ≡ 0
@@ -102,15 +107,35 @@ docs_had [] t = tt
 docs_had (d ∷ docs) t =
     (λ name text e. short_had text (∥∥₁_map t (λ (all : AllByRecursion (HasTexts IsShort) (d ∷ docs)). all.0 name text e)), docs_had docs (∥∥₁_map t (λ (all : AllByRecursion (HasTexts IsShort) (d ∷ docs)). all.1)))
 
-ids_had : (puts : List PutTransform) → ∥ AllByRecursion HasShortId puts ∥₁ → AllByRecursion HasShortId puts
-ids_had [] t = tt
-ids_had (p ∷ puts) t =
-    (short_had p.id (∥∥₁_map t (λ (all : AllByRecursion HasShortId (p ∷ puts)). all.0)), ids_had puts (∥∥₁_map t (λ (all : AllByRecursion HasShortId (p ∷ puts)). all.1)))
+few_had : (n : ℕ) → ∥ n < 2 ^ 32 ∥₁ → n < 2 ^ 32
+few_had n t =
+    let none_over : (n + 1) - 2 ^ 32 ≡ 0 = ∥∥₁_elim t (hlevel ℕ_set) (λ (few : n < 2 ^ 32). not_over n (2 ^ 32) few) in
+    omega (arith, none_over)
+
+names_had : (aggs : List Agg) → ∥ AllByRecursion (λ (a : Agg). IsShort a.name) aggs ∥₁ → AllByRecursion (λ (a : Agg). IsShort a.name) aggs
+names_had [] t = tt
+names_had (a ∷ aggs) t =
+    (short_had a.name (∥∥₁_map t (λ (all : AllByRecursion (λ (a : Agg). IsShort a.name) (a ∷ aggs)). all.0)), names_had aggs (∥∥₁_map t (λ (all : AllByRecursion (λ (a : Agg). IsShort a.name) (a ∷ aggs)). all.1)))
+
+config_had : (c : Config) → ∥ IsShortConfig c ∥₁ → IsShortConfig c
+config_had c t = record {
+  groups = few_had (length (groups_of c.shape)) (∥∥₁_map t (λ (short : IsShortConfig c). short.groups));
+  aggs = few_had (length (aggs_of c.shape)) (∥∥₁_map t (λ (short : IsShortConfig c). short.aggs));
+  names = names_had (aggs_of c.shape) (∥∥₁_map t (λ (short : IsShortConfig c). short.names));
+}
+
+put_had : (p : PutTransform) → ∥ IsSpelledPut p ∥₁ → IsSpelledPut p
+put_had p t = (short_had p.id (∥∥₁_map t (λ (spelled : IsSpelledPut p). spelled.0)), config_had p.config (∥∥₁_map t (λ (spelled : IsSpelledPut p). spelled.1)))
+
+puts_had : (puts : List PutTransform) → ∥ AllByRecursion IsSpelledPut puts ∥₁ → AllByRecursion IsSpelledPut puts
+puts_had [] t = tt
+puts_had (p ∷ puts) t =
+    (put_had p (∥∥₁_map t (λ (all : AllByRecursion IsSpelledPut (p ∷ puts)). all.0)), puts_had puts (∥∥₁_map t (λ (all : AllByRecursion IsSpelledPut (p ∷ puts)). all.1)))
 
 -- the texts of documents have spellings
 pub texts_are_short : (history : List Entry) → AreSpelled history → AllByRecursion (HasTexts IsShort) (documents (read (reverse history)))
 texts_are_short history t = docs_had (documents (read (reverse history))) (∥∥₁_map t (λ (all : AllByRecursion (FitsEntry First) history). docs_short (reverse history) (all_reverse (FitsEntry First) history all)))
 
--- the ids of transforms have spellings
-pub ids_are_short : (history : List Entry) → AreSpelled history → AllByRecursion HasShortId (transforms (reverse history))
-ids_are_short history t = ids_had (transforms (reverse history)) (∥∥₁_map t (λ (all : AllByRecursion (FitsEntry First) history). ids_short (reverse history) (all_reverse (FitsEntry First) history all)))
+-- the ids of transforms have spellings, and their configurations can be counted
+pub puts_are_spelled : (history : List Entry) → AreSpelled history → AllByRecursion IsSpelledPut (transforms (reverse history))
+puts_are_spelled history t = puts_had (transforms (reverse history)) (∥∥₁_map t (λ (all : AllByRecursion (FitsEntry First) history). puts_short (reverse history) (all_reverse (FitsEntry First) history all)))

@@ -1,10 +1,10 @@
 -- What stands beside an ASCII byte of a text, and a text whose escapes are a text.
-use Rattle.std.proofs.Common.{◌≡◌, ℕ, zero, suc, ◌+◌, ◌<◌, ◌≤◌, Bool, true, cond, ◌&&◌, nat_lt, List, [], ◌∷◌, ◌++◌, flat_map, length, take, drop, get_or, IsUtf8, inl, inr, refl, sym, ap, ◌∙◌, subst, arith, append_assoc, append-nil, length-append, ltb-true}
+use Rattle.std.proofs.Common.{◌≡◌, ℕ, zero, suc, ◌+◌, ◌<◌, ◌≤◌, Bool, true, ◌&&◌, nat_lt, List, [], ◌∷◌, ◌++◌, flat_map, length, drop, get_or, IsUtf8, inl, inr, refl, sym, ap, ◌∙◌, subst, arith, append_assoc, append-nil, length-append, ltb-true}
 use Rattle.std.proofs.lemmas.Bool.{and_parts, cases_lt, cases_eq}
 use Rattle.std.proofs.lemmas.List.{take-append-le, take_all}
 use Rattle.std.proofs.lemmas.List.Prefix.{front_rest}
 use Rattle.std.proofs.lemmas.Str.{IsUtf8-append, IsUtf8-nil, IsUtf8-encode, IsUtf8-drop, IsUtf8-take, IsCharBoundary-after_ascii, IsCharBoundary-at_seam, encode_ascii, inside_one, length-le-encodes}
-use lib.Utf8.{scalar, scalars, encode, encodes, low_scalar}
+use lib.Utf8.{scalars, encode, encodes, low_scalar}
 use Rattle.json.specs.Print.{escape_byte}
 use Rattle.json.proofs.Printed.Strings.{escape_byte_plain}
 use Rattle.tf_model.specs.Print.{escaped}
@@ -114,10 +114,9 @@ by_char n again x u few big (c ∷ cs) ok e = elim (cases_lt c 128) [
       let same : c ≡ x = cc in
       absurd (omega (arith, same, small, big))
   | inr high ↦
-      let p = and_parts _ _ ok in
       let m = high_front (encode c) (x ∷ u) (encodes cs) (high_char c high) e in
       let fewer : length m.more ≤ n = omega (arith, ap length m.is, length-append (encode c) m.more, some_bytes c, few) in
-      subst IsUtf8 (sym m.is) (IsUtf8-append (encode c) m.more (IsUtf8-encode c p.0) (again m.more fewer (cs, (p.1, m.rest_is))))
+      subst IsUtf8 (sym m.is) (IsUtf8-append (encode c) m.more (IsUtf8-encode c (and_parts _ _ ok).0) (again m.more fewer (cs, ((and_parts _ _ ok).1, m.rest_is))))
 ]
 
 unescaped : (n : ℕ) (u : List ℕ) → length u ≤ n → IsUtf8 (flat_map escaped u) → IsUtf8 u

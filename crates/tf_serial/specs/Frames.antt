@@ -1,13 +1,12 @@
 -- Which entries come next as one frame of the file: those of a command, or that of a move.
-use Rattle.std.specs.Prelude.{◌≡◌, ◌⊎◌, ℕ, ℤ, ◌+◌, Bool, true, false, List, [], ◌∷◌, reverse, Option, Some, None, Result, Ok, Err}
+use Rattle.std.specs.Prelude.{◌≡◌, ◌⊎◌, ℕ, ℤ, ◌+◌, Bool, true, false, List, [], ◌∷◌, ◌++◌, reverse, Some, Result, Ok, Err}
 use Rattle.tf_model.specs.declared.entry.Entry.{Entry}
 use Rattle.tf_command.specs.Commands.{command_of}
 use Rattle.tf_command.specs.Lines.{is_blank}
 use Rattle.tf_command.specs.declared.command.Command.{Command}
 use Rattle.tf_command.specs.declared.command.LineError.{LineError}
-use Rattle.tf_history.specs.Transforms.{PutTransform, transforms}
-use Rattle.tf_core.specs.Lookups.{head_of}
-use Rattle.tf_serial.specs.Moves.{moves, next_move}
+use Rattle.tf_core.specs.Listing.{ids_after}
+use Rattle.tf_serial.specs.Moves.{moves, next_move, pass, passes}
 use Rattle.tf_serial.specs.Script.{after_line, asked, given, is_settle}
 
 -- behind a history, entries come next as one frame
@@ -26,13 +25,18 @@ pub record IsMove (moment : ℤ) (id : List ℕ) (past left next : List Entry) :
   pub is : next_move moment id (reverse left) ≡ Some entry
   pub alone : next ≡ entry ∷ []
 
--- the moves of a settling of a past
-abbrev pub IsSettlingBy : ℤ → List Entry → Option PutTransform → Frames
-IsSettlingBy moment past None left next = ⊥
-IsSettlingBy moment past (Some p) left next = IsMove moment p.id past left next
+-- a pass over transforms from a past on: those before this one are moved out, and a move of this one comes
+pub record IsOfPass (moment : ℤ) (ids : List (List ℕ)) (past left next : List Entry) : Type 0 where
+  pub before : List (List ℕ)
+  pub id : List ℕ
+  pub later : List (List ℕ)
+  pub order : ids ≡ before ++ id ∷ later
+  pub move : IsMove moment id (pass moment before past) left next
 
-abbrev pub IsSettling : ℤ → List Entry → Frames
-IsSettling moment past = IsSettlingBy moment past (head_of (transforms past))
+-- a settling of a past: so many passes are made, and a move of the next pass comes
+pub record IsSettling (moment : ℤ) (past left next : List Entry) : Type 0 where
+  pub made : ℕ
+  pub move : IsOfPass moment (ids_after past) (passes moment made (ids_after past) past) left next
 
 -- what a command makes of a past
 abbrev pub IsOfCommand : Bool → List Entry → Command → Frames

@@ -1,5 +1,5 @@
 -- What calls over a store leave of a history that comes to be entry by entry.
-use Rattle.std.specs.Prelude.{◌≡◌, ℕ, ◌+◌, ◌<◌, ◌≤◌, ◌^◌, List, [], ◌∷◌, ◌++◌, length, reverse, Option, Some, None}
+use Rattle.std.specs.Prelude.{◌≡◌, ℕ, ◌+◌, ◌<◌, ◌≤◌, ◌^◌, List, [], ◌++◌, length, reverse, Option, Some, None}
 use mathlib.Core.List.{IsPrefix}
 use Rattle.tf_model.specs.Causes.{Rose}
 use Rattle.tf_model.specs.declared.entry.Entry.{Entry}

@@ -1,12 +1,12 @@
 // Committing one entry.
-ghost use Rattle.std.specs.Prelude.{◌≡◌, ◌∷◌, ◌++◌, [], IfErr, None, OnOk, reverse};
+ghost use Rattle.std.specs.Prelude.{◌≡◌, ◌∷◌, ◌++◌, [], IfErr, IfOk, None, OnOk, reverse};
 ghost use Rattle.tf_serial.specs.Frames.{IsOnly};
 ghost use Rattle.tf_serial.specs.Parts.{IsNext, Runs, Stops};
 ghost use Rattle.tf_store.specs.Words.{broken_at, history_of};
 
 use std::alloc::Global;
 use tf_disk::Disk;
-use tf_model::{Entry, List};
+use tf_model::{Entry, List, OutOfMemory};
 use tf_store::{Store, StoreError};
 
 /// Makes the history longer by an entry, as one frame of the file.
@@ -22,10 +22,18 @@ pub fn commit_entry<D: Disk>(
     ensures stops { IfErr result (Stops D.meaning (IsOnly (history_of store.old) (entry ∷ [])) store.old (history_of store.old ++ entry ∷ []) store.new) }
     ensures runs { Runs D.meaning store.old store.new }
 {
-    let mut entries = List::new(alloc);
-    entries.push(entry)?;
+    let entries = alone(alloc, entry)?;
     match store.commit(entries) {
         Ok(_) => Ok(()),
         Err(error) => Err(error),
     }
+}
+
+// The list of one entry.
+fn alone(alloc: Global, entry: Entry) -> Result<List<Entry>, OutOfMemory>
+    ensures { IfOk result (λ entries. entries ≡ entry ∷ []) }
+{
+    let mut entries = List::new(alloc);
+    entries.push(entry)?;
+    Ok(entries)
 }

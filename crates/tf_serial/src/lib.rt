@@ -6,7 +6,9 @@
 
 mod commanding;
 mod committing;
+mod laws;
 mod script;
 mod settling;
 
+pub use laws::settlings_follow_the_rule;
 pub use script::run_script;

@@ -2,6 +2,7 @@
 use Rattle.std.proofs.Common.{◌≡◌, inr, ℕ, ◌<◌, IsAscii, false, List, [], ◌∷◌, ◌++◌, refl, sym, ◌∙◌, ap, arith, Some, None, zero, suc}
 use Rattle.std.specs.Prelude.{pos}
 use Rattle.std.proofs.lemmas.Str.{IsUtf8-from_ascii}
+use Rattle.std.specs.List.Sorted.{IsStrictlySortedBy}
 use Rattle.tf_model.specs.declared.entry.Entry.{Entry}
 use Rattle.tf_model.specs.declared.entry.Kind.TheVariants as kind
 use Rattle.tf_model.specs.declared.query.FieldType.TheVariants.{Keyword, Long}
@@ -83,7 +84,7 @@ index_spelled = record { has_spelling = record { some = omega arith; each = (ind
 
 -- it may be the first entry
 index_taken : IsTaken [] index
-unfolding reading is_index_name is_field_path
+unfolding reading is_index_name is_field_path IsStrictlySortedBy
 index_taken = record {
   legal = record {
     moment = (record { le = tt }, record { le = tt });
@@ -96,6 +97,7 @@ index_taken = record {
       shards = (omega arith, omega arith);
       fields = omega arith;
       field_names = refl;
+      ascending = ((refl, tt), (tt, tt));
       stamp = tt;
       slow = refl;
     };

@@ -1,6 +1,6 @@
 -- What a submit answers.
-use Rattle.std.proofs.Common.{◌≡◌, ℕ, ◌<◌, List, refl, sym, subst, [], ◌∷◌, length, Option, Ok, Err, arith}
-use Rattle.std.specs.Prelude.{IfErr, Result}
+use Rattle.std.proofs.Common.{◌≡◌, ℕ, ◌<◌, List, refl, sym, subst, [], ◌∷◌, length, Option, Err, arith}
+use Rattle.std.specs.Prelude.{Result}
 use Rattle.tf_model.specs.declared.entry.Entry.{Entry}
 use Rattle.tf_store.specs.Answers.{CommitAnswers, OrMemory, SubmitAnswers, counted, frame_size}
 use Rattle.tf_store.specs.declared.error.StoreError.{StoreError}

@@ -1,5 +1,5 @@
 -- What a command does to the history of a store.
-use Rattle.std.specs.Prelude.{◌≡◌, ℕ, ℤ, List, [], reverse}
+use Rattle.std.specs.Prelude.{ℕ, ℤ, List, reverse}
 use Rattle.tf_model.specs.declared.entry.Entry.{Entry}
 use Rattle.tf_command.specs.declared.command.Command.{Command}
 use Rattle.tf_decide.specs.Asking.{asked}

@@ -1,12 +1,14 @@
 // What a store tells.
-ghost use Rattle.std.specs.Prelude.{◌≡◌, length, reverse};
+ghost use Rattle.std.specs.Prelude.{◌≡◌, IfOk, length, reverse};
 ghost use Rattle.tf_core.specs.Held.{last_ms_of};
+ghost use Rattle.tf_core.specs.Listing.{ids_in};
 ghost use Rattle.tf_core.specs.Moves.{moment_after};
 ghost use Rattle.tf_store.specs.Standing.{AreSpelled};
 
 use crate::state::Store;
 use tf_core::Core;
 use tf_disk::Disk;
+use tf_model::{List, OutOfMemory, Text};
 
 impl<D: Disk> Store<D> {
     ghost use Rattle.tf_store.specs.Words.{history_of, failed_of, found_of, opened_with, journal_of, disk_of, broken_at};
@@ -31,6 +33,13 @@ impl<D: Disk> Store<D> {
         ensures { result ≡ length (history_of self.now) }
     {
         self.core.count()
+    }
+
+    /// The ids of the transforms that exist, ascending by their bytes.
+    pub fn ids(&self) -> Result<List<Text>, OutOfMemory>
+        ensures { IfOk result (λ ids. ids ≡ ids_in (history_of self.now)) }
+    {
+        self.core.ids()
     }
 
     /// The moment of the last entry, 0 where there is none. Takes no memory.

@@ -3,7 +3,6 @@ use Rattle.std.specs.String.{string_bytes}
 use Rattle.tf_model.specs.declared.entry.Entry.{Entry}
 use Rattle.tf_store.specs.Words.{disk_of, failed_of, file_len, history_of, journal_of, opened_at, opened_with}
 use Rattle.tf_cli.specs.Top.{HoldsAll, IsLeftOver, IsSound, stopped}
-use Rattle.tf_cli.specs.declared.outcome.Outcome.{Outcome}
 use Rattle.tf_cli.proofs.Held.{holds_all}
 use Rattle.tf_cli.proofs.Left.{ran, stops}
 use Rattle.tf_cli.proofs.running.run_store.Goals as goal

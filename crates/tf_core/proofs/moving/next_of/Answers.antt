@@ -3,10 +3,12 @@ use Rattle.std.specs.Prelude.{IfSome}
 use Rattle.std.specs.Option.{option_map}
 use Rattle.std.proofs.lemmas.Int.{to_z-of_z}
 use Rattle.tf_core.specs.Kept.{past_in}
+use Rattle.tf_core.specs.Standing.{shared}
+use Rattle.tf_core.proofs.AllowedTransforms.{known_of}
 use Rattle.tf_core.specs.Legal.{IsTaken}
 use Rattle.tf_core.specs.Moves.{moment_after, moved}
 use Rattle.tf_core.proofs.NextKind.{entry_is, entry_taken, short_entry}
-use Rattle.tf_core.specs.Texts.{HasShortRows}
+use Rattle.tf_core.specs.Texts.{IsShortKind, IsShortPut}
 use Rattle.tf_model.specs.declared.entry.Entry.{Entry}
 use Rattle.tf_core.proofs.moving.next_of.Goals as goal
 
@@ -26,5 +28,6 @@ returns-clause-taken c =
     (entry_taken past c.in_ok-kind.kind c.args.now c.requires.stands.taken c.in_ok-kind.ensures.taken)
 
 pub returns-clause-short : goal.returns-clause-short
-returns-clause-short c = λ known.
-    subst (λ o. IfSome o (λ (e : Entry). HasShortRows e.kind)) (sym c.entry_of.ensures) (short_entry c.in_ok-kind.kind (to_z w64 (of_z w64 c.moment_of.result)) (c.in_ok-kind.ensures.short known))
+returns-clause-short c = λ known puts.
+    let short = known_of (past_in c.args.entries.now) c.args.indices.now (shared c.args.docs.now) c.args.transforms.now c.requires.stands IsShortPut c.args.id.now c.args.found.now c.requires.found puts in
+    subst (λ o. IfSome o (λ (e : Entry). IsShortKind e.kind)) (sym c.entry_of.ensures) (short_entry c.in_ok-kind.kind (to_z w64 (of_z w64 c.moment_of.result)) (c.in_ok-kind.ensures.short known short))

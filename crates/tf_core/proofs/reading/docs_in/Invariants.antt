@@ -1,6 +1,6 @@
 use Rattle.std.proofs.Common.{◌≡◌, filter, map, take}
 use Rattle.std.specs.Arc.{arc_value}
-use Rattle.tf_core.specs.Built.{is_among}
+use Rattle.tf_core.specs.Sources.{is_among}
 use Rattle.tf_core.proofs.reading.docs_in.Given as goal
 
 abbrev pub invariant-loop-doc : goal.invariant-loop-doc

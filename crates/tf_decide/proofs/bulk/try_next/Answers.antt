@@ -12,8 +12,8 @@ pub add-requires : goal.add-requires
 add-requires c =
     let past = reverse c.args.core.now.history in
     let is = c.in_ok-tried.ensures.asked
-    ∙ next_is past c.args.given.now.actor c.args.given.now.at_ms c.args.index c.args.source.now c.args.batch c.args.id c.args.doc c.shard_of-shard.result c.count_at-seq.result c.len-more.result c.place_with-place.result c.requires.batch
-    c.shard_of-shard.ensures.shard c.shard_of-shard.ensures.within c.count_at-seq.ensures c.len-more.ensures c.place_with-place.ensures in
+    ∙ next_is past c.args.given.now.actor c.args.given.now.at_ms c.args.index c.args.source.now c.args.batch c.args.id c.args.doc c.shard_of-shard.result c.count_at-seq.result c.place_with-place.result c.requires.batch
+    c.shard_of-shard.ensures.shard c.shard_of-shard.ensures.within c.count_at-seq.ensures c.place_with-place.ensures in
     next_placed past c.args.given.now.actor c.args.given.now.at_ms c.args.index c.args.source.now c.args.batch c.args.id c.args.doc c.in_ok-tried.tried c.shard_of-shard.result c.count_at-seq.result c.requires.batch is
     c.shard_of-shard.ensures.shard c.shard_of-shard.ensures.within c.count_at-seq.ensures
 
@@ -21,8 +21,8 @@ pub returns-clause-batch : goal.returns-clause-batch
 returns-clause-batch c =
     let past = reverse c.args.core.now.history in
     let is = c.in_ok-tried.ensures.asked
-    ∙ next_is past c.args.given.now.actor c.args.given.now.at_ms c.args.index c.args.source.now c.args.batch c.args.id c.args.doc c.shard_of-shard.result c.count_at-seq.result c.len-more.result c.place_with-place.result c.requires.batch
-    c.shard_of-shard.ensures.shard c.shard_of-shard.ensures.within c.count_at-seq.ensures c.len-more.ensures c.place_with-place.ensures in
+    ∙ next_is past c.args.given.now.actor c.args.given.now.at_ms c.args.index c.args.source.now c.args.batch c.args.id c.args.doc c.shard_of-shard.result c.count_at-seq.result c.place_with-place.result c.requires.batch
+    c.shard_of-shard.ensures.shard c.shard_of-shard.ensures.within c.count_at-seq.ensures c.place_with-place.ensures in
     if_both _ _ _ c.add.result c.add.ensures.tried c.add.ensures.kept (λ new t k.
     added_batch past c.args.given.now.actor c.args.given.now.at_ms c.args.index c.args.source.now c.args.batch new c.args.id c.args.doc c.in_ok-tried.tried c.shard_of-shard.result c.count_at-seq.result c.requires.batch is
     c.shard_of-shard.ensures.shard c.shard_of-shard.ensures.within c.count_at-seq.ensures t (subst (λ name. IsAdded c.in_ok-tried.tried name c.shard_of-shard.result c.count_at-seq.result c.args.batch new) c.in_ok-name.ensures k))
@@ -31,8 +31,8 @@ pub returns-clause-tried : goal.returns-clause-tried
 returns-clause-tried c =
     let past = reverse c.args.core.now.history in
     let is = c.in_ok-tried.ensures.asked
-    ∙ next_is past c.args.given.now.actor c.args.given.now.at_ms c.args.index c.args.source.now c.args.batch c.args.id c.args.doc c.shard_of-shard.result c.count_at-seq.result c.len-more.result c.place_with-place.result c.requires.batch
-    c.shard_of-shard.ensures.shard c.shard_of-shard.ensures.within c.count_at-seq.ensures c.len-more.ensures c.place_with-place.ensures in
+    ∙ next_is past c.args.given.now.actor c.args.given.now.at_ms c.args.index c.args.source.now c.args.batch c.args.id c.args.doc c.shard_of-shard.result c.count_at-seq.result c.place_with-place.result c.requires.batch
+    c.shard_of-shard.ensures.shard c.shard_of-shard.ensures.within c.count_at-seq.ensures c.place_with-place.ensures in
     if_ok _ _ c.add.result c.add.ensures.tried (λ new t. subst (λ r. IsTried r c.args.batch new) is t)
 
 pub returns-clause-spelled : goal.returns-clause-spelled

@@ -6,6 +6,6 @@ use Rattle.tf_decide.proofs.replying.hits_of.Given as goal
 
 abbrev pub invariant-loop-row : goal.invariant-loop-row
 invariant-loop-row l = record {
-  hits : l.hits ++ map (hit_of l.config) (drop l.row-index l.row-items) ≡ map (hit_of l.config) l.row-items;
-  shown : AllByRecursion IsShown (drop l.row-index l.row-items);
+  hits : l.hits ++ map (hit_of l.config) (drop l.row-index l.rows) ≡ map (hit_of l.config) l.rows;
+  shown : AllByRecursion IsShown (drop l.row-index l.rows);
 }

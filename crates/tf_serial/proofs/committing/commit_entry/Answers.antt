@@ -16,28 +16,24 @@ use Rattle.tf_serial.proofs.committing.commit_entry.Goals as goal
 
 pub commit-requires-clause-body : goal.commit-requires-clause-body
 commit-requires-clause-body g c =
-    let one : c.push.new.self ≡ c.args.entry ∷ [] = c.in_ok-push.ensures.ok ∙ ap (λ (l : List Entry). l ++ c.args.entry ∷ []) c.new-entries.ensures in
-    subst (λ (es : List Entry). IsBody First es) (sym one) (record { some = omega arith; each = (c.requires.next.fits, tt) })
+    subst (λ (es : List Entry). IsBody First es) (sym c.in_ok-entries.ensures) (record { some = omega arith; each = (c.requires.next.fits, tt) })
 
 pub commit-requires-clause-taken : goal.commit-requires-clause-taken
 commit-requires-clause-taken g c =
-    let one : c.push.new.self ≡ c.args.entry ∷ [] = c.in_ok-push.ensures.ok ∙ ap (λ (l : List Entry). l ++ c.args.entry ∷ []) c.new-entries.ensures in
-    subst (λ (es : List Entry). AreTakenAfter (history_of c.args.store.now) es) (sym one) (c.requires.next.taken, tt)
+    subst (λ (es : List Entry). AreTakenAfter (history_of c.args.store.now) es) (sym c.in_ok-entries.ensures) (c.requires.next.taken, tt)
 
 pub returns-in-Ok-clause-runs : goal.returns-in-Ok-clause-runs
 returns-in-Ok-clause-runs g c =
-    let one : c.push.new.self ≡ c.args.entry ∷ [] = c.in_ok-push.ensures.ok ∙ ap (λ (l : List Entry). l ++ c.args.entry ∷ []) c.new-entries.ensures in
-    runs_entry g.D.Disk.meaning c.args.store.now c.commit.new.self c.args.entry (c.in-Ok.ensures.history ∙ ap (λ (l : List Entry). history_of c.args.store.now ++ l) one) c.requires.next.right c.in-Ok.ensures.opened c.in-Ok.ensures.found c.in-Ok.ensures.later
+    runs_entry g.D.Disk.meaning c.args.store.now c.commit.new.self c.args.entry (c.in-Ok.ensures.history ∙ ap (λ (l : List Entry). history_of c.args.store.now ++ l) c.in_ok-entries.ensures) c.requires.next.right c.in-Ok.ensures.opened c.in-Ok.ensures.found c.in-Ok.ensures.later
 
 pub returns-in-Err-clause-stops : goal.returns-in-Err-clause-stops
 returns-in-Err-clause-stops g c =
     let m = g.D.Disk.meaning in
     let old = c.args.store.now in
     let new = c.commit.new.self in
-    let es = c.push.new.self in
+    let es = c.in_ok-entries.entries in
     let error = c.in-Err.error in
-    let one : es ≡ c.args.entry ∷ [] = c.in_ok-push.ensures.ok ∙ ap (λ (l : List Entry). l ++ c.args.entry ∷ []) c.new-entries.ensures in
-    subst (λ (l : List Entry). Stops m (IsOnly (history_of old) l) old (history_of old ++ l) new error) one
+    subst (λ (l : List Entry). Stops m (IsOnly (history_of old) l) old (history_of old ++ l) new error) c.in_ok-entries.ensures
     (stop_of_commit (history_of old) es (history_of new) (failed_of old) (failed_of new) (broken_at old) (broken_at new) (file_len old) (file_len new) (length (history_of old ++ es)) (m.faults (disk_of old)) (m.faults (disk_of new)) error
     c.requires.whole c.in-Err.ensures.answer c.in-Err.ensures.history c.in-Err.ensures.broken c.in-Err.ensures.failed
     (no_call error (journal_of new ≡ journal_of old) (file_len new ≡ file_len old) (λ same. ap journal.file_len same) c.in-Err.ensures.no_call))
@@ -45,12 +41,12 @@ returns-in-Err-clause-stops g c =
 pub returns-in-Err-clause-runs : goal.returns-in-Err-clause-runs
 returns-in-Err-clause-runs g c = runs_same g.D.Disk.meaning c.args.store.now c.commit.new.self c.in-Err.ensures.history c.in-Err.ensures.opened c.in-Err.ensures.found c.in-Err.ensures.later
 
-pub returns-in_err-push-clause-stops : goal.returns-in_err-push-clause-stops
-returns-in_err-push-clause-stops g c =
+pub returns-in_err-entries-clause-stops : goal.returns-in_err-entries-clause-stops
+returns-in_err-entries-clause-stops g c =
     let old = c.args.store.now in
     let is : IfErr c.from_residual.result (λ e. e ≡ store_error.Memory) = search rules in
     if_memory c.from_residual.result (Stops g.D.Disk.meaning (IsOnly (history_of old) (c.args.entry ∷ [])) old (history_of old ++ c.args.entry ∷ []) old) is
     (memory_at (history_of old) (history_of old) (history_of old ++ c.args.entry ∷ []) (broken_at old) (prefix_self (history_of old)) (prefix_more (history_of old) (c.args.entry ∷ [])) c.requires.whole)
 
-pub returns-in_err-push-clause-runs : goal.returns-in_err-push-clause-runs
-returns-in_err-push-clause-runs g c = runs_itself g.D.Disk.meaning c.args.store.now
+pub returns-in_err-entries-clause-runs : goal.returns-in_err-entries-clause-runs
+returns-in_err-entries-clause-runs g c = runs_itself g.D.Disk.meaning c.args.store.now

@@ -1,4 +1,4 @@
-use Rattle.std.proofs.Common.{◌≡◌, List, Ok, rules, subst}
+use Rattle.std.proofs.Common.{◌≡◌, List, rules, subst}
 use Rattle.std.specs.Prelude.{IfErr, Result, reverse}
 use Rattle.tf_model.specs.declared.entry.Entry.{Entry}
 use Rattle.tf_command.specs.Commands.{command_of}

@@ -1,17 +1,16 @@
-use Rattle.std.proofs.Common.{◌≡◌, List, false, rules, sym, subst, ◌∙◌}
+use Rattle.std.proofs.Common.{◌≡◌, List, false, rules, sym, ◌∙◌}
 use Rattle.std.specs.Prelude.{IfErr, reverse}
 use Rattle.tf_model.specs.declared.entry.Entry.{Entry}
-use Rattle.tf_command.specs.Commands.{command_of}
 use Rattle.tf_command.specs.Lines.{is_blank}
-use Rattle.tf_store.specs.Words.{broken_at, disk_of, failed_of, file_len, history_of}
+use Rattle.tf_store.specs.Words.{broken_at, history_of}
 use Rattle.tf_store.specs.declared.error.StoreError.TheVariants as store_error
-use Rattle.tf_serial.specs.Frames.{IsOfLine, IsOfReading}
+use Rattle.tf_serial.specs.Frames.{IsOfLine}
 use Rattle.tf_serial.specs.Parts.{Stops}
-use Rattle.tf_serial.specs.Script.{after_line, after_reading}
+use Rattle.tf_serial.specs.Script.{after_line}
 use Rattle.tf_serial.proofs.GoingOn.{runs_itself}
-use Rattle.tf_serial.proofs.LinesRead.{after_read, frames_read, reply_read}
+use Rattle.tf_serial.proofs.LinesRead.{after_read}
 use Rattle.tf_serial.proofs.Prefixes.{history_is, prefix_same}
-use Rattle.tf_serial.proofs.Stopping.{if_memory, memory_at, stop_in}
+use Rattle.tf_serial.proofs.Stopping.{if_memory, memory_at}
 use Rattle.tf_serial.proofs.script.do_line.Goals as goal
 
 pub returns-then-is_blank-clause-runs : goal.returns-then-is_blank-clause-runs

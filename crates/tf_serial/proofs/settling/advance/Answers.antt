@@ -1,14 +1,13 @@
-use Rattle.std.proofs.Common.{◌≡◌, ◌∷◌, [], ◌++◌, List, Some, None, rules, sym, ap, subst, ◌∙◌, ℤ, to_z, of_z, w64}
+use Rattle.std.proofs.Common.{◌≡◌, ◌∷◌, [], ◌++◌, List, Some, rules, sym, ap, subst, ◌∙◌, ℤ, to_z, of_z, w64}
 use Rattle.std.proofs.lemmas.Int.{to_z-of_z}
 use Rattle.std.specs.Prelude.{IfErr, reverse}
-use Rattle.std.proofs.lemmas.List.{reverse-reverse}
 use Rattle.tf_model.specs.declared.entry.Entry.{Entry}
 use Rattle.tf_store.specs.Words.{broken_at, disk_of, failed_of, file_len, history_of}
 use Rattle.tf_serial.specs.Frames.{IsMove, IsOnly}
 use Rattle.tf_serial.specs.Moves.{moves, next_move}
 use Rattle.tf_serial.specs.Parts.{Stops}
 use Rattle.tf_serial.proofs.GoingOn.{runs_itself}
-use Rattle.tf_serial.proofs.Prefixes.{history_begins, one_move, prefix_self}
+use Rattle.tf_serial.proofs.Prefixes.{history_begins, moves_begin, one_move, prefix_self}
 use Rattle.tf_serial.proofs.Frames.{first_move}
 use Rattle.tf_serial.proofs.Stopping.{memory_at, stop_in}
 use Rattle.tf_serial.proofs.settling.advance.Goals as goal
@@ -36,7 +35,7 @@ returns-in-Ok-None-clause-runs g c = runs_itself g.D.Disk.meaning c.args.store.n
 pub returns-in-Err-clause-stops : goal.returns-in-Err-clause-stops
 returns-in-Err-clause-stops g c =
     let old = c.args.store.now in
-    memory_at (history_of old) (history_of old) (reverse (moves c.args.moment 1 c.args.id.now (reverse (history_of old)))) (broken_at old) (prefix_self (history_of old)) (history_begins c.args.moment 1 c.args.id.now (history_of old)) c.requires.whole
+    memory_at (history_of old) (history_of old) (reverse (moves c.args.moment 1 c.args.id.now (reverse (history_of old)))) (broken_at old) (prefix_self (history_of old)) (history_begins (history_of old) (reverse (moves c.args.moment 1 c.args.id.now (reverse (history_of old)))) (moves_begin c.args.moment (reverse (history_of old)) 1 c.args.id.now)) c.requires.whole
 
 pub returns-in-Err-clause-runs : goal.returns-in-Err-clause-runs
 returns-in-Err-clause-runs g c = runs_itself g.D.Disk.meaning c.args.store.now

@@ -1,4 +1,0 @@
-use Rattle.tf_core.proofs.paging.next_rows.Given as goal
-
-abbrev pub ghosts-rows_from : goal.ghosts-rows_from
-ghosts-rows_from a = record { name = a.blank.name; parts = a.blank.parts }
