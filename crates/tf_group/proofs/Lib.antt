@@ -1,2 +1,3 @@
+pub mod CompareLaws
 pub mod TreeLaws
 pub mod KeyLaws

@@ -49,7 +49,7 @@ fn latest_key(alloc: Global, unique_key: &List<Text>, doc: &Doc) -> Result<Key, 
 {
     let mut parts = List::new(alloc);
     for field in unique_key.as_slice() {
-        parts.push(latest_part(alloc, field, doc)?)?;
+        parts.push(latest_part(field, doc).into_value(alloc)?)?;
     }
     Ok(Key { parts })
 }
@@ -62,8 +62,8 @@ fn pivot_key(alloc: Global, groups: &List<Group>, doc: &Doc) -> Result<Option<Ke
 {
     let mut parts = List::new(alloc);
     for group in groups.as_slice() {
-        match pivot_part(alloc, group, doc)? {
-            Some(part) => parts.push(part)?,
+        match pivot_part(group, doc) {
+            Some(part) => parts.push(part.into_value(alloc)?)?,
             None => return Ok(None),
         }
     }

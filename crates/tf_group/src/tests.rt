@@ -5,8 +5,9 @@ ghost use Rattle.tf_model.specs.Keys.{groups_of};
 ghost use Rattle.tf_model.specs.Rows.{aggs_of};
 ghost use Rattle.tf_model.specs.Values.{value_of};
 
-use crate::{id_text, key_of, keys_of, read_key};
+use crate::{compare_key, id_text, key_of, keys_of, read_key};
 use std::alloc::Global;
+use std::cmp::Ordering;
 use tf_model::{
     Config, Doc, FieldType, Group, GroupKind, Key, List, Mapping, OutOfMemory, Query, Shape, Text,
     Tree, Value,
@@ -108,23 +109,40 @@ fn key_by(
     text_of(alloc, key_of(alloc, &config, &doc)?)
 }
 
+// The key of a document with this value, by one group, against the key of this one part.
+fn order_by(
+    alloc: Global,
+    kind: GroupKind,
+    missing_bucket: bool,
+    value: Option<Value>,
+    other: Value,
+) -> Result<Option<Ordering>, OutOfMemory>
+    requires kind { IsGroupInRange kind }
+    requires value { FitsGroup kind value }
+{
+    let config = config(alloc, pivot(alloc, "v", kind, missing_bucket)?)?;
+    let doc = document(alloc, value)?;
+    let mut parts = List::new(alloc);
+    parts.push(other)?;
+    Ok(compare_key(&config, &doc, &Key { parts }))
+}
+
 #[test]
 fn histograms_take_numbers_down(rt: HostRuntime) -> Result<(), OutOfMemory> {
+    let a = rt.alloc();
+    let tens = GroupKind::Histogram { interval: 10 };
     let cases = [
-        (-1, "[-10]"),
-        (0, "[0]"),
-        (9, "[0]"),
-        (i64::MIN, "[-9223372036854775810]"),
+        (-1, "[-10]", -10, Ordering::Equal),
+        (0, "[0]", -1, Ordering::Greater),
+        (9, "[0]", 1, Ordering::Less),
+        (i64::MIN, "[-9223372036854775810]", i64::MIN, Ordering::Less),
     ];
-    for (number, expected) in cases {
+    for (number, expected, other, order) in cases {
         let value = Some(Value::Int(i128::from(number)));
-        let text = key_by(
-            rt.alloc(),
-            GroupKind::Histogram { interval: 10 },
-            false,
-            value,
-        )?;
-        assert_eq!(rt; text.as_str(), expected);
+        assert_eq!(rt; key_by(a, tens, false, value)?.as_str(), expected);
+        let value = Some(Value::Int(i128::from(number)));
+        let other = Value::Int(i128::from(other));
+        assert_eq!(rt; order_by(a, tens, false, value, other)?, Some(order));
     }
     Ok(())
 }
@@ -150,9 +168,15 @@ fn date_histograms_take_dates_down(rt: HostRuntime) -> Result<(), OutOfMemory> {
 #[test]
 fn missing_values_have_a_part_or_no_key(rt: HostRuntime) -> Result<(), OutOfMemory> {
     let a = rt.alloc();
-    for (missing_bucket, expected) in [(true, "[null]"), (false, "none")] {
-        let text = key_by(a, GroupKind::Terms, missing_bucket, None)?;
-        assert_eq!(rt; text.as_str(), expected);
+    let cases = [
+        (true, "[null]", Some(Ordering::Less)),
+        (false, "none", None),
+    ];
+    for (missing_bucket, expected, order) in cases {
+        let terms = GroupKind::Terms;
+        assert_eq!(rt; key_by(a, terms, missing_bucket, None)?.as_str(), expected);
+        let other = Value::Bool(false);
+        assert_eq!(rt; order_by(a, terms, missing_bucket, None, other)?, order);
     }
     Ok(())
 }
