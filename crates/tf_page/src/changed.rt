@@ -9,7 +9,6 @@ ghost use Rattle.tf_reader.specs.Places.{documents};
 use crate::least::Least;
 use std::alloc::Global;
 use std::sync::ledger::Ledger;
-use tf_group::key_of;
 use tf_model::{Config, Key, List, OutOfMemory, Steps};
 use tf_reader::Reader;
 
@@ -53,7 +52,7 @@ pub fn changed_after<L: Ledger>(
     let mut least = Least::new(alloc, size as usize);
     for place in places.as_slice() {
         let doc = reader.fetch(*place, steps);
-        least.offer(after, key_of(alloc, config, doc)?)?;
+        least.offer_of(alloc, config, after, doc)?;
     }
     let is_last = least.is_whole();
     Ok(Changed {

@@ -1,17 +1,21 @@
 // The least of the keys that are offered.
-ghost use Rattle.std.specs.Prelude.{◌≡◌, ◌+◌, ◌-◌, ◌++◌, ◌&&◌, not, ◌<◌, ◌≤◌, ◌↔◌, IfOk, IsTrue, List, [], OnOk, Some, length, take};
+ghost use Rattle.std.specs.Prelude.{◌≡◌, ◌+◌, ◌-◌, ◌++◌, ◌&&◌, not, ◌<◌, ◌≤◌, ◌↔◌, IfOk, IsTrue, List, [], None, OnOk, Some, if◌then◌else◌, length, nat_eq, slice_get, take};
 ghost use Rattle.std.specs.BTreeSet.{insert_key};
 ghost use Rattle.std.specs.Option.{option_copied};
+ghost use Rattle.std.specs.List.Sorted.{IsStrictlySortedBy};
 ghost use Rattle.tf_model.specs.declared.value.Key.{Key as K};
 ghost use Rattle.tf_model.specs.Changed as spec;
-ghost use Rattle.tf_model.specs.Keys.{listed};
+ghost use Rattle.tf_model.specs.Conditions.{Fits, IsInRange};
+ghost use Rattle.tf_model.specs.Keys.{keys_of, listed};
 ghost use Rattle.tf_model.specs.Order.{key_cmp};
-ghost use Rattle.tf_page.specs.Least.{IsLeastOf, above};
+ghost use Rattle.tf_page.specs.Least.{IsLeastOf, above, greatest_of, left_out};
 
+use crate::fates::{Fate, fate_of};
 use std::alloc::Global;
 use std::collections::BTreeSet;
 use std::marker::Model;
-use tf_model::{Key, List, OutOfMemory};
+use tf_group::key_of;
+use tf_model::{Config, Doc, Key, List, OutOfMemory};
 
 /// The least of the keys that were offered, each once: as many as `size`, or all.
 #[derive(Drop)]
@@ -57,8 +61,51 @@ impl Least {
         Ok(())
     }
 
+    /// The key of one document more, where it has one and that is above the position. The key is made only where it may
+    /// have to be kept.
+    pub fn offer_of(
+        &mut self,
+        alloc: Global,
+        config: &Config,
+        after: Option<&Key>,
+        doc: &Doc,
+    ) -> Result<(), OutOfMemory>
+        requires config { IsInRange config.now }
+        requires doc { Fits config.now doc.now }
+        ensures more { OnOk result ((ks : List K) → IsLeastOf (above (option_copied after.entry) ks) self.old
+            → IsLeastOf (above (option_copied after.entry) (ks ++ keys_of config.now doc.now)) self.new) }
+        ensures size { self.new.size ≡ self.old.size }
+    {
+        match fate_of(config, doc, after, self.greatest()) {
+            Fate::Passed => Ok(()),
+            Fate::LeftOut => {
+                self.leave_out();
+                Ok(())
+            }
+            Fate::Wanted => {
+                self.offer(after, key_of(alloc, config, doc)?)?;
+                Ok(())
+            }
+        }
+    }
+
+    /// The greatest key, where there is no room for another. Takes no memory.
+    fn greatest(&self) -> Option<&Key>
+        ensures key { option_copied result ≡ greatest_of self.now }
+        ensures ordered { IsStrictlySortedBy key_cmp self.now.keys }
+    {
+        greatest_if_full(&self.keys, self.size)
+    }
+
+    /// Keeps that a key was left out. Takes no memory.
+    fn leave_out(&mut self)
+        ensures { self.new ≡ left_out self.old }
+    {
+        self.is_whole = false;
+    }
+
     /// One key more, where there is one and it is above the position.
-    pub fn offer(&mut self, after: Option<&Key>, key: Option<Key>) -> Result<(), OutOfMemory>
+    fn offer(&mut self, after: Option<&Key>, key: Option<Key>) -> Result<(), OutOfMemory>
         ensures more { OnOk result ((ks : List K) → IsLeastOf (above (option_copied after.entry) ks) self.old
             → IsLeastOf (above (option_copied after.entry) (ks ++ listed key)) self.new) }
         ensures size { self.new.size ≡ self.old.size }
@@ -107,6 +154,18 @@ fn is_still_whole(was_whole: bool, is_over: bool) -> bool
     ensures { result ≡ (was_whole && not is_over) }
 {
     was_whole && !is_over
+}
+
+/// The greatest key, where there are as many as `size`.
+fn greatest_if_full(keys: &BTreeSet<Key, Global>, size: usize) -> Option<&Key>
+    ensures key { option_copied result ≡ (if nat_eq (length keys.now.keys) size then slice_get keys.now.keys (length keys.now.keys - 1) else None) }
+    ensures ordered { IsStrictlySortedBy key_cmp keys.now.keys }
+{
+    if keys.len() == size {
+        keys.last()
+    } else {
+        None
+    }
 }
 
 /// Whether there is one key too many. The greatest is then taken out.

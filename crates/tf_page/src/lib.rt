@@ -6,6 +6,7 @@
 #![tactic(auto)]
 
 mod changed;
+mod fates;
 mod least;
 
 pub use changed::{Changed, changed_after};
