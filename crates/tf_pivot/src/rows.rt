@@ -7,10 +7,9 @@ ghost use Rattle.tf_reader.specs.Places.{documents};
 
 use crate::error::PivotError;
 use crate::finding::find_rows;
-use crate::folds::{add_with, empty_folds};
+use crate::folds::{add_doc, empty_folds};
 use std::alloc::Global;
 use std::sync::ledger::Ledger;
-use tf_group::key_of;
 use tf_model::{Config, Key, List, Row, Steps};
 use tf_reader::Reader;
 
@@ -44,8 +43,7 @@ pub fn rows_for<L: Ledger>(
     let mut folds = empty_folds(alloc, config, keys)?;
     for place in places.as_slice() {
         let doc = reader.fetch(*place, steps);
-        let key = key_of(alloc, config, doc)?;
-        add_with(&mut folds, config, key, doc);
+        add_doc(alloc, &mut folds, config, doc)?;
     }
     find_rows(alloc, config, keys, &folds)
 }
