@@ -14,10 +14,10 @@ pub mod Allowed
 pub mod AllowedDocs
 pub mod StandsMore
 pub mod LastMoment
-pub mod Sequences
 pub mod Example
 pub mod Found
 pub mod IdsLaws
+pub mod CountsLaws
 pub mod SameTables
 pub mod ReadyCore
 pub mod Numbers

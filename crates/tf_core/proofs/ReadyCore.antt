@@ -17,6 +17,7 @@ use Rattle.tf_history.specs.Legality.{IsAllowed, MayPage}
 use Rattle.tf_history.specs.LegalEntries.{FitsKind, MayWrite, has_id}
 use Rattle.tf_history.specs.Lives.{Life, documents, life, writes}
 use Rattle.tf_history.specs.Reading.{deed_of}
+use Rattle.tf_core.specs.declared.counts.Counts.{Counts}
 use Rattle.tf_core.specs.declared.ids.Ids.{Ids}
 use Rattle.tf_core.specs.declared.kept.Kept.{Kept}
 use Rattle.tf_core.specs.declared.ready.Prepared.{Prepared}
@@ -24,6 +25,7 @@ use Rattle.tf_core.specs.declared.ready.Step.{Step}
 use Rattle.tf_core.specs.declared.ready.Step.TheVariants as step
 use Rattle.tf_core.specs.declared.transform.Transform.{Transform}
 use Rattle.tf_core.specs.Chain.{AreSteps, Batch, HasRoom, entries_in}
+use Rattle.tf_core.specs.Counts.{AreCounted, HaveCounts, SameCounts}
 use Rattle.tf_core.specs.Ids.{AreIndexed, AreNew, IsNew, all_docs}
 use Rattle.tf_core.specs.Kept.{entry_of, past_in}
 use Rattle.tf_core.specs.Legal.{AreTaken, IsTaken, read, reading}
@@ -33,6 +35,7 @@ use Rattle.tf_core.specs.Rooms.{SameTables}
 use Rattle.tf_core.specs.Standing.{IsCore, Stands, shared}
 use Rattle.tf_core.specs.Steps.{IsStep}
 use Rattle.tf_mapping.specs.Documents.{reads, values_of}
+use Rattle.tf_core.proofs.CountsLaws.{still_counted}
 use Rattle.tf_core.proofs.SameTables.{still_stands}
 use Rattle.tf_core.proofs.Taken.{is_allowed, is_forever}
 use Rattle.tf_core.proofs.Written.{kept_is_read}
@@ -117,9 +120,10 @@ new_ids past indices docs ts entries stands taken steps made =
     (all_new past steps (subst (AreTaken past) (sym made.same) taken) (subst (λ ss. AreSteps ss steps) (sym stands.indices_are) made.chain))
 
 -- ---- after room was made
-module _ (ids : Ids) (es es' : Vec Kept) (ss ss' : Vec SourceIndex) (ds ds' : Vec (Arc Doc Global)) (ts ts' : Vec Transform)
+module _ (ids : Ids) (counts counts' : Counts) (es es' : Vec Kept) (ss ss' : Vec SourceIndex) (ds ds' : Vec (Arc Doc Global)) (ts ts' : Vec Transform)
     (same_es : es'.items ≡ es.items) (same_ss : ss'.items ≡ ss.items) (same_ds : ds'.items ≡ ds.items) (same : SameTables ts.items ts'.items)
-    (stands : Stands (past_in es.items) ss.items (shared ds.items) ts.items) (indexed : AreIndexed ids (shared ds.items)) where
+    (stands : Stands (past_in es.items) ss.items (shared ds.items) ts.items) (indexed : AreIndexed ids (shared ds.items))
+    (same_counts : SameCounts counts counts') (counted : AreCounted counts (shared ds.items)) where
   stands_still : Stands (past_in es'.items) ss'.items (shared ds'.items) ts'.items
   stands_still =
       subst (λ xs. Stands (past_in xs) ss'.items (shared ds'.items) ts'.items) (sym same_es)
@@ -130,14 +134,18 @@ module _ (ids : Ids) (es es' : Vec Kept) (ss ss' : Vec SourceIndex) (ds ds' : Ve
   indexed_still : AreIndexed ids (shared ds'.items)
   indexed_still = subst (λ xs. AreIndexed ids (shared xs)) (sym same_ds) indexed
 
-  pub idle_core : IsCore ids es' ss' ds' ts' None
-  idle_core = record { stands = stands_still; indexed = indexed_still; prepared = tt }
+  counted_still : AreCounted counts' (shared ds'.items)
+  counted_still = subst (λ xs. AreCounted counts' (shared xs)) (sym same_ds) (still_counted counts counts' (shared ds.items) same_counts counted)
 
-  pub ready_core : (entries : List Entry) (b : Batch) → AreTaken (past_in es.items) entries → ArePrepared ss.items entries b.steps → HasRoom b.steps es' ss' ds' ts' → AreIndexed ids (shared ds.items ++ all_docs b.steps)
-      → IsCore ids es' ss' ds' ts' (Some b)
-  ready_core entries b taken made room places = record {
+  pub idle_core : IsCore ids counts' es' ss' ds' ts' None
+  idle_core = record { stands = stands_still; indexed = indexed_still; counted = counted_still; prepared = tt }
+
+  pub ready_core : (entries : List Entry) (b : Batch) → AreTaken (past_in es.items) entries → ArePrepared ss.items entries b.steps → HasRoom b.steps es' ss' ds' ts' → AreIndexed ids (shared ds.items ++ all_docs b.steps) → HaveCounts counts' b.steps
+      → IsCore ids counts' es' ss' ds' ts' (Some b)
+  ready_core entries b taken made room places have = record {
     stands = stands_still;
     indexed = indexed_still;
+    counted = counted_still;
     prepared = record {
       ready = record {
         taken = subst (λ xs. AreTaken (past_in xs) (entries_in b.steps)) (sym same_es) (subst (AreTaken (past_in es.items)) (sym made.same) taken);
@@ -145,5 +153,6 @@ module _ (ids : Ids) (es es' : Vec Kept) (ss ss' : Vec SourceIndex) (ds ds' : Ve
         room = room;
       };
       indexed = subst (λ xs. AreIndexed ids (shared xs ++ all_docs b.steps)) (sym same_ds) places;
+      counted = have;
     };
   }

@@ -12,6 +12,7 @@ pub mod Kept
 pub mod Rooms
 pub mod Chain
 pub mod Ids
+pub mod Counts
 pub mod Held
 pub mod Standing
 pub mod Made

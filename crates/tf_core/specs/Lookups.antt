@@ -1,5 +1,5 @@
 -- What a history leaves, as look-ups name it.
-use Rattle.std.specs.Prelude.{◌≡◌, ℕ, Bool, false, if◌then◌else◌, count_by, slice_get, take, List, [], ◌∷◌, reverse, Option, Some, None}
+use Rattle.std.specs.Prelude.{ℕ, Bool, false, if◌then◌else◌, count_by, List, [], ◌∷◌, reverse, Option, Some, None}
 use Rattle.std.specs.List.{find, position}
 use Rattle.std.specs.Str.{bytes_eq}
 use Rattle.tf_model.specs.declared.doc.Doc.{Doc}
@@ -42,10 +42,6 @@ document_place index id history = position (has_id index id) (docs_in history)
 abbrev pub some_has : (Doc → Bool) → Option Doc → Bool
 some_has p None = false
 some_has p (Some d) = p d
-
--- each document has the number of those of its shard before it
-abbrev pub AreNumbered : List Doc → Type 0
-AreNumbered docs = (place : ℕ) (d : Doc) → slice_get docs place ≡ Some d → d.seq ≡ count_by (is_in_shard d.index d.shard) (take place docs)
 
 -- how many documents a shard of an index has
 abbrev pub shard_count : ℕ → ℕ → List Entry → ℕ

@@ -14,7 +14,9 @@ use Rattle.tf_core.specs.declared.kept.Kept.{Kept}
 use Rattle.tf_core.specs.declared.ready.Prepared.{Prepared}
 use Rattle.tf_core.specs.declared.transform.Transform.{Transform}
 use Rattle.tf_core.specs.Chain.{AreSteps, Batch, HasRoom, entries_in}
+use Rattle.tf_core.specs.declared.counts.Counts.{Counts}
 use Rattle.tf_core.specs.declared.ids.Ids.{Ids}
+use Rattle.tf_core.specs.Counts.{AreCounted, HaveCounts}
 use Rattle.tf_core.specs.Ids.{AreIndexed, all_docs}
 use Rattle.tf_core.specs.Kept.{past_in}
 use Rattle.tf_core.specs.Legal.{AreTaken, IsTakenPast, read}
@@ -42,15 +44,17 @@ pub record IsReady (entries : Vec Kept) (indices : Vec SourceIndex) (docs : Vec 
   pub chain : AreSteps indices.items steps
   pub room : HasRoom steps entries indices docs ts
 
--- ready, and the documents that are to come have their places
-pub record IsReadyWith (ids : Ids) (entries : Vec Kept) (indices : Vec SourceIndex) (docs : Vec (Arc Doc Global)) (ts : Vec Transform) (b : Batch) : Type 0 where
+-- ready, and the documents that are to come have their places, and their shards counts
+pub record IsReadyWith (ids : Ids) (counts : Counts) (entries : Vec Kept) (indices : Vec SourceIndex) (docs : Vec (Arc Doc Global)) (ts : Vec Transform) (b : Batch) : Type 0 where
   pub ready : IsReady entries indices docs ts b.steps
   pub indexed : AreIndexed ids (shared docs.items ++ all_docs b.steps)
+  pub counted : HaveCounts counts b.steps
 
-pub record IsCore (ids : Ids) (entries : Vec Kept) (indices : Vec SourceIndex) (docs : Vec (Arc Doc Global)) (ts : Vec Transform) (ready : Option Batch) : Type 0 where
+pub record IsCore (ids : Ids) (counts : Counts) (entries : Vec Kept) (indices : Vec SourceIndex) (docs : Vec (Arc Doc Global)) (ts : Vec Transform) (ready : Option Batch) : Type 0 where
   pub stands : Stands (past_in entries.items) indices.items (shared docs.items) ts.items
   pub indexed : AreIndexed ids (shared docs.items)
-  pub prepared : IfSome ready (IsReadyWith ids entries indices docs ts)
+  pub counted : AreCounted counts (shared docs.items)
+  pub prepared : IfSome ready (IsReadyWith ids counts entries indices docs ts)
 
 -- what applying a prepared entry does: it is kept, and its step is made
 pub record Applied (p : Prepared) (es es' : Vec Kept) (ss ss' : Vec SourceIndex) (ds ds' : Vec (Arc Doc Global)) (ts ts' : Vec Transform) : Type 0 where

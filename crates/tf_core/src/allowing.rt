@@ -7,8 +7,8 @@ ghost use Rattle.std.specs.Ordering.{is_lt, nat_cmp};
 ghost use Rattle.std.specs.Str.{bytes_eq};
 ghost use Rattle.tf_core.specs.Allowing as spec;
 ghost use Rattle.tf_core.specs.BuiltPast.{HasShard};
+ghost use Rattle.tf_core.specs.Counts.{AreCounted};
 ghost use Rattle.tf_core.specs.Ids.{AreIndexed};
-ghost use Rattle.tf_core.specs.Lookups.{AreNumbered};
 ghost use Rattle.tf_core.specs.Sources.{AreNamedOnce};
 ghost use Rattle.tf_core.specs.Standing.{shared};
 ghost use Rattle.tf_model.specs.Changed.{is_after as after};
@@ -18,9 +18,10 @@ ghost use Rattle.tf_mapping.specs.Written.{is_written};
 
 use crate::built::is_built_config;
 use crate::catalogue::passes;
+use crate::counts::Counts;
 use crate::ids::Ids;
 use crate::index::Index;
-use crate::lookups::{place_in, seq_after};
+use crate::lookups::place_in;
 use crate::names::is_free;
 use crate::rows::key;
 use crate::table::find;
@@ -160,6 +161,7 @@ fn is_date(kind: FieldType) -> bool
 pub fn takes_document(
     alloc: Global,
     ids: &Ids,
+    counts: &Counts,
     indices: &[Index],
     docs: &[Arc<Doc, Global>],
     at_ms: i64,
@@ -171,18 +173,21 @@ pub fn takes_document(
 ) -> Result<bool, OutOfMemory>
     requires shards { AllByRecursion HasShard indices.now }
     requires indexed { AreIndexed ids.now (shared docs.now) }
-    requires numbered { AreNumbered (shared docs.now) }
+    requires counted { AreCounted counts.now (shared docs.now) }
     ensures { IfOk result (λ takes. takes ≡ spec.takes_document (slice_get indices.now index) (shared docs.now) at_ms index shard seq id.now tree.now) }
 {
     match indices.get(index as usize) {
         None => Ok(false),
-        Some(found) => takes_in(alloc, ids, found, docs, at_ms, index, shard, seq, id, tree),
+        Some(found) => takes_in(
+            alloc, ids, counts, found, docs, at_ms, index, shard, seq, id, tree,
+        ),
     }
 }
 
 fn takes_in(
     alloc: Global,
     ids: &Ids,
+    counts: &Counts,
     found: &Index,
     docs: &[Arc<Doc, Global>],
     at_ms: i64,
@@ -194,10 +199,10 @@ fn takes_in(
 ) -> Result<bool, OutOfMemory>
     requires shards { HasShard found.now }
     requires indexed { AreIndexed ids.now (shared docs.now) }
-    requires numbered { AreNumbered (shared docs.now) }
+    requires counted { AreCounted counts.now (shared docs.now) }
     ensures { IfOk result (λ takes. takes ≡ spec.takes_in found.now (shared docs.now) at_ms index shard seq id.now tree.now) }
 {
-    if !has_place(ids, found, docs, index, shard, seq, id) {
+    if !has_place(ids, counts, found, docs, index, shard, seq, id) {
         return Ok(false);
     }
     is_kept(alloc, found, at_ms, tree)
@@ -214,6 +219,7 @@ fn is_kept(alloc: Global, found: &Index, at_ms: i64, tree: &Tree) -> Result<bool
 // Whether a document goes to this place of an index, and its id is new there.
 fn has_place(
     ids: &Ids,
+    counts: &Counts,
     found: &Index,
     docs: &[Arc<Doc, Global>],
     index: u32,
@@ -223,11 +229,11 @@ fn has_place(
 ) -> bool
     requires shards { HasShard found.now }
     requires indexed { AreIndexed ids.now (shared docs.now) }
-    requires numbered { AreNumbered (shared docs.now) }
+    requires counted { AreCounted counts.now (shared docs.now) }
     ensures { result ≡ spec.has_place found.now (shared docs.now) index shard seq id.now }
 {
     shard == route(id, found.shards())
-        && seq == seq_after(docs, index, shard)
+        && seq == counts.count(index, shard)
         && seq < MAX_DOCS
         && 1 <= id.as_str().len()
         && id.as_str().len() <= MAX_ID

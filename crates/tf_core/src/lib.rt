@@ -9,6 +9,7 @@ mod allowing;
 mod applying;
 mod built;
 mod catalogue;
+mod counts;
 mod ids;
 mod index;
 mod kept;

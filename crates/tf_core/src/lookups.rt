@@ -1,17 +1,17 @@
 // What is looked up in a core: indices, documents and transforms.
-ghost use Rattle.std.specs.Prelude.{◌≡◌, ◌^◌, ◌||◌, IfOk, count_by, get_or, not, length, slice_get, reverse, option_map, IfSome, Some, ◌<◌};
+ghost use Rattle.std.specs.Prelude.{◌≡◌, ◌^◌, ◌||◌, IfOk, not, length, slice_get, reverse, option_map, IfSome, Some, ◌<◌};
 ghost use Rattle.std.specs.List.{find as find_doc, list_any, position};
 ghost use Rattle.std.specs.Option.{option_copied};
 ghost use Rattle.std.specs.Arc.{arc_value};
 ghost use Rattle.std.specs.Str.{bytes_eq};
 ghost use Rattle.tf_history.specs.Catalogue as catalogue;
 ghost use Rattle.tf_history.specs.LegalEntries as legal;
-ghost use Rattle.tf_history.specs.LegalEntries.{has_id, is_in_shard};
+ghost use Rattle.tf_history.specs.LegalEntries.{has_id};
 ghost use Rattle.tf_history.specs.Transforms.{transform_of};
 ghost use Rattle.tf_core.specs.Held.{life_in};
 ghost use Rattle.tf_core.specs.Ids.{AreIndexed};
 ghost use Rattle.tf_core.specs.Lookups as spec;
-ghost use Rattle.tf_core.specs.Lookups.{AreNumbered, docs_in, indices_in, some_has, transforms_in};
+ghost use Rattle.tf_core.specs.Lookups.{docs_in, indices_in, some_has, transforms_in};
 ghost use Rattle.tf_core.specs.Sources.{catalogued};
 ghost use Rattle.tf_core.specs.Standing.{shared};
 ghost use Rattle.tf_core.specs.Summary.{put_of};
@@ -117,41 +117,12 @@ fn doc_behind(docs: &[Arc<Doc, Global>], place: u64) -> Option<&Doc>
 }
 
 impl Core {
-    /// How many documents a shard of an index has: the sequence number of its next one. Looks at the documents that were
-    /// written after the shard's last one.
+    /// How many documents a shard of an index has: the sequence number of its next one. Looks at no document.
     pub fn next_seq(&self, index: u32, shard: u32) -> u64
         ensures { result ≡ spec.shard_count index shard self.now.history }
     {
-        seq_after(self.docs.as_slice(), index, shard)
+        self.counts.count(index, shard)
     }
-}
-
-/// How many documents a shard of an index has: the number of the last one and one more, 0 where it has none.
-pub fn seq_after(docs: &[Arc<Doc, Global>], index: u32, shard: u32) -> u64
-    requires numbered { AreNumbered (shared docs.now) }
-    requires few { length docs.now < 2 ^ 63 }
-    ensures { result ≡ count_by (is_in_shard index shard) (shared docs.now) }
-{
-    for back in 0..docs.len() {
-        let doc = doc_in(docs, docs.len() - 1 - back);
-        if is_in(doc, index, shard) {
-            return doc.seq + 1;
-        }
-    }
-    0
-}
-
-fn doc_in(docs: &[Arc<Doc, Global>], at: usize) -> &Doc
-    requires { at < length docs.now }
-    ensures { result.now ≡ get_or (shared docs.now) at result.now }
-{
-    &docs[at]
-}
-
-fn is_in(doc: &Doc, index: u32, shard: u32) -> bool
-    ensures { result ≡ is_in_shard index shard doc.now }
-{
-    index == doc.index && shard == doc.shard
 }
 
 /// The place that is entered, where it is seen: where the document there has the id.

@@ -1,6 +1,7 @@
 // How entries are prepared.
 ghost use Rattle.std.specs.Prelude.{◌≡◌, ◌++◌, ◌+◌, List, IfOk};
 ghost use Rattle.tf_core.specs.declared.ready.Prepared.{Prepared};
+ghost use Rattle.tf_core.specs.Counts.{HaveCounts, SameCounts};
 ghost use Rattle.tf_core.specs.Ids.{AreIndexed, AreNew, all_docs};
 ghost use Rattle.tf_core.specs.Standing.{shared};
 ghost use Rattle.tf_core.specs.Chain.{HasRoom, all_added};
@@ -10,6 +11,7 @@ ghost use Rattle.tf_core.specs.Preparing as spec;
 ghost use Rattle.tf_core.specs.Rooms.{SameTables};
 ghost use Rattle.tf_core.specs.Preparing.{AllFit, ArePrepared};
 
+use crate::counts::{Counts, make_counts};
 use crate::ids::{Ids, enter_all};
 use crate::index::Index;
 use crate::kept::Kept;
@@ -22,7 +24,7 @@ use std::alloc::Global;
 use std::sync::Arc;
 use tf_model::{Doc, Entry, Kind, List, OutOfMemory};
 
-/// Takes all the memory that entries need, and changes nothing but room and places that are not seen yet.
+/// Takes all the memory that entries need, and changes nothing but room, counts of 0 and places that are not seen yet.
 pub fn make_ready(
     alloc: Global,
     entries: &mut Vec<Kept>,
@@ -30,6 +32,7 @@ pub fn make_ready(
     docs: &mut Vec<Arc<Doc, Global>>,
     transforms: &mut Vec<Transform>,
     ids: &mut Ids,
+    counts: &mut Counts,
     more: List<Entry>,
 ) -> Result<Vec<Prepared>, OutOfMemory>
     requires fit { AllFit indices.old.items more }
@@ -40,12 +43,15 @@ pub fn make_ready(
     ensures docs { docs.new.items ≡ docs.old.items }
     ensures transforms { SameTables transforms.old.items transforms.new.items }
     ensures indexed { AreIndexed ids.new (shared docs.old.items) }
+    ensures counted { SameCounts counts.old counts.new }
     ensures steps { IfOk result (λ steps. ArePrepared indices.old.items more steps.items) }
     ensures room { IfOk result (λ steps. HasRoom steps.items entries.new indices.new docs.new transforms.new) }
     ensures places { IfOk result (λ steps. AreIndexed ids.new (shared docs.old.items ++ all_docs steps.items)) }
+    ensures counts { IfOk result (λ steps. HaveCounts counts.new steps.items) }
 {
     let steps = prepare_all(alloc, indices.as_slice(), more)?;
     make_room(entries, indices, docs, transforms, steps.as_slice())?;
+    make_counts(counts, steps.as_slice())?;
     enter_all(ids, alloc, docs.as_slice(), steps.as_slice())?;
     Ok(steps)
 }

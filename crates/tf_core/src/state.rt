@@ -4,6 +4,7 @@ ghost use Rattle.tf_core.specs.Legal.{AreTakenAfter, IsTakenHistory};
 ghost use Rattle.tf_core.specs.Held.{last_ms_of, late_in, life_in, pages_in, row_count_in};
 
 use crate::applying::apply_all;
+use crate::counts::Counts;
 use crate::ids::Ids;
 use crate::index::Index;
 use crate::kept::{Kept, moment};
@@ -31,6 +32,8 @@ pub struct Core {
     pub(crate) transforms: Vec<Transform>,
     /// The places of documents by their ids. What is prepared is entered and not yet seen.
     pub(crate) ids: Ids,
+    /// How many documents each shard has.
+    pub(crate) counts: Counts,
     pub(crate) found: u64,
     pub(crate) ready: Option<Snapshot<Ready>>,
 }
@@ -49,7 +52,7 @@ impl Model for Core {
 
     ghost view = { λ c. record { history = history_in c.entries.items; ready = batch_in c.ready; found = c.found } };
 
-    ghost invariant = { λ c. IsCore c.ids c.entries c.indices c.docs c.transforms (batch_in c.ready) };
+    ghost invariant = { λ c. IsCore c.ids c.counts c.entries c.indices c.docs c.transforms (batch_in c.ready) };
 }
 
 impl Core {
@@ -66,6 +69,7 @@ impl Core {
             docs: Vec::new(alloc),
             transforms: Vec::new(alloc),
             ids: Ids::new(alloc),
+            counts: Counts::new(alloc),
             found: 0,
             ready: None,
         }
@@ -157,6 +161,7 @@ impl Core {
             &mut self.docs,
             &mut self.transforms,
             &mut self.ids,
+            &mut self.counts,
             entries,
         );
         match made {
@@ -184,6 +189,7 @@ impl Core {
             &mut self.indices,
             &mut self.docs,
             &mut self.transforms,
+            &mut self.counts,
             ready.into_steps(),
         );
         self.ready = None;

@@ -2,6 +2,7 @@
 ghost use Rattle.std.specs.Prelude.{◌≡◌, ◌↔◌, IfOk, true, reverse};
 ghost use Rattle.tf_core.specs.Allowing.{is_timely as timely, may_be_failed as failed_spec, may_be_finished as finished_spec, may_do as spec};
 ghost use Rattle.tf_core.specs.Held.{last_ms_of};
+ghost use Rattle.tf_core.specs.Counts.{AreCounted};
 ghost use Rattle.tf_core.specs.Ids.{AreIndexed};
 ghost use Rattle.tf_core.specs.Kept.{history_in, past_in};
 ghost use Rattle.tf_core.specs.Legal.{IsTaken};
@@ -11,6 +12,7 @@ use crate::allowing::{
     is_timely, may_begin, may_finish, may_page, may_start, may_stop, takes_document, takes_index,
     takes_transform,
 };
+use crate::counts::Counts;
 use crate::ids::Ids;
 use crate::index::Index;
 use crate::kept::{Kept, moment};
@@ -33,6 +35,7 @@ impl Core {
         is_taken(
             self.alloc,
             &self.ids,
+            &self.counts,
             self.entries.as_slice(),
             self.indices.as_slice(),
             self.docs.as_slice(),
@@ -46,6 +49,7 @@ impl Core {
 fn is_taken(
     alloc: Global,
     ids: &Ids,
+    counts: &Counts,
     entries: &[Kept],
     indices: &[Index],
     docs: &[Arc<Doc, Global>],
@@ -54,12 +58,14 @@ fn is_taken(
 ) -> Result<bool, OutOfMemory>
     requires stands { Stands (past_in entries.now) indices.now (shared docs.now) transforms.now }
     requires indexed { AreIndexed ids.now (shared docs.now) }
+    requires counted { AreCounted counts.now (shared docs.now) }
     ensures { IfOk result (λ taken. (taken ≡ true) ↔ IsTaken (past_in entries.now) entry.now) }
 {
     let timely = is_in_time(entries, entry);
     let may = may_do(
         alloc,
         ids,
+        counts,
         entries,
         indices,
         docs,
@@ -90,6 +96,7 @@ pub fn last_moment(entries: &[Kept]) -> i64
 fn may_do(
     alloc: Global,
     ids: &Ids,
+    counts: &Counts,
     entries: &[Kept],
     indices: &[Index],
     docs: &[Arc<Doc, Global>],
@@ -99,6 +106,7 @@ fn may_do(
 ) -> Result<bool, OutOfMemory>
     requires stands { Stands (past_in entries.now) indices.now (shared docs.now) transforms.now }
     requires indexed { AreIndexed ids.now (shared docs.now) }
+    requires counted { AreCounted counts.now (shared docs.now) }
     ensures { IfOk result (λ may. may ≡ spec indices.now (shared docs.now) transforms.now at_ms kind.now) }
 {
     match kind {
@@ -116,7 +124,7 @@ fn may_do(
             id,
             tree,
         } => takes_document(
-            alloc, ids, indices, docs, at_ms, *index, *shard, *seq, id, tree,
+            alloc, ids, counts, indices, docs, at_ms, *index, *shard, *seq, id, tree,
         ),
         Kind::Put { id, config } => takes_transform(alloc, indices, transforms, id, config),
         Kind::Start { id } => Ok(find(transforms, id).is_some_and(|found| may_start(found))),

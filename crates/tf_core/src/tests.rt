@@ -148,5 +148,6 @@ fn documents_go_to_their_shards_with_their_moments(rt: HostRuntime) -> Result<()
         assert!(rt; taken == want, "{id}");
     }
     assert!(rt; core.written() == 3 && core.moment(3) == 9 && core.moment(11) == 11);
+    assert!(rt; core.next_seq(0, 0) == 1 && core.next_seq(0, 1) == 2 && core.next_seq(1, 0) == 0);
     Ok(())
 }

@@ -1,11 +1,14 @@
-use Rattle.std.proofs.Common.{ap, subst, sym, ◌∙◌}
-use Rattle.tf_core.specs.Kept.{past_in}
-use Rattle.tf_core.specs.Lookups.{AreNumbered}
-use Rattle.tf_core.specs.Standing.{shared}
-use Rattle.tf_core.proofs.Sequences.{docs_numbered}
+use Rattle.std.proofs.Common.{◌≡◌, List, ap, subst, sym, ◌∙◌}
+use Rattle.std.specs.Prelude.{count_by}
+use Rattle.tf_model.specs.declared.entry.Entry.{Entry}
+use Rattle.tf_history.specs.LegalEntries.{is_in_shard}
+use Rattle.tf_core.specs.Held.{Held}
+use Rattle.tf_core.specs.Lookups.{shard_count}
 use Rattle.tf_core.proofs.state.Core.next_seq.Goals as goal
 
-pub seq_after-requires-clause-numbered : goal.seq_after-requires-clause-numbered
-seq_after-requires-clause-numbered c =
-    let stands = c.self.invariant.stands in
-    subst AreNumbered (stands.docs_are ∙ ap shared (sym c.as_slice.ensures.value)) (docs_numbered (past_in c.self.inside.entries.items) stands.taken)
+pub returns : goal.returns
+returns c =
+    let index = c.args.index in
+    let shard = c.args.shard in
+    subst (λ (history : List Entry). c.count.result ≡ shard_count index shard history) (ap (λ (h : Held). h.history) c.self.view_is)
+    (c.count.ensures ∙ (c.self.invariant.counted index shard ∙ ap (count_by (is_in_shard index shard)) (sym c.self.invariant.stands.docs_are)))

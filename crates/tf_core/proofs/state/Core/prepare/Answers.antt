@@ -1,5 +1,6 @@
 use Rattle.std.proofs.Common.{Some, ap, ◌++◌, subst, sym}
 use Rattle.tf_core.specs.Chain.{HasRoom}
+use Rattle.tf_core.specs.Counts.{HaveCounts}
 use Rattle.tf_core.specs.Held.{Held}
 use Rattle.tf_core.specs.Ids.{AreIndexed, all_docs}
 use Rattle.tf_core.specs.Kept.{past_in}
@@ -26,16 +27,17 @@ invariant_of-self c =
     let new = made.new in
     let taken : AreTaken (past_in old.entries.items) c.args.entries = subst (λ history. AreTakenAfter history c.args.entries) (sym (ap (λ (h : Held). h.history) c.self.view_is)) c.requires.taken in
     let steps = sym c.new-ready.ensures.steps in
-    subst (λ b. IsCore new.ids new.entries new.indices new.docs new.transforms (Some b)) (sym c.of.ensures)
-    (ready_core new.ids old.entries new.entries old.indices new.indices old.docs new.docs old.transforms new.transforms made.ensures.entries made.ensures.indices made.ensures.docs made.ensures.transforms c.self.invariant.stands made.ensures.indexed
+    subst (λ b. IsCore new.ids new.counts new.entries new.indices new.docs new.transforms (Some b)) (sym c.of.ensures)
+    (ready_core new.ids old.counts new.counts old.entries new.entries old.indices new.indices old.docs new.docs old.transforms new.transforms made.ensures.entries made.ensures.indices made.ensures.docs made.ensures.transforms c.self.invariant.stands made.ensures.indexed made.ensures.counted c.self.invariant.counted
     c.args.entries c.new-ready.result taken
     (subst (ArePrepared old.indices.items c.args.entries) steps c.in-Ok.ensures.steps)
     (subst (λ xs. HasRoom xs new.entries new.indices new.docs new.transforms) steps c.in-Ok.ensures.room)
-    (subst (λ xs. AreIndexed new.ids (shared old.docs.items ++ all_docs xs)) steps c.in-Ok.ensures.places))
+    (subst (λ xs. AreIndexed new.ids (shared old.docs.items ++ all_docs xs)) steps c.in-Ok.ensures.places)
+    (subst (HaveCounts new.counts) steps c.in-Ok.ensures.counts))
 
 pub invariant_of-self-in-Err : goal.invariant_of-self-in-Err
 invariant_of-self-in-Err c =
     let old = c.self.inside in
     let made = c.make_ready-made in
     let new = made.new in
-    idle_core new.ids old.entries new.entries old.indices new.indices old.docs new.docs old.transforms new.transforms made.ensures.entries made.ensures.indices made.ensures.docs made.ensures.transforms c.self.invariant.stands made.ensures.indexed
+    idle_core new.ids old.counts new.counts old.entries new.entries old.indices new.indices old.docs new.docs old.transforms new.transforms made.ensures.entries made.ensures.indices made.ensures.docs made.ensures.transforms c.self.invariant.stands made.ensures.indexed made.ensures.counted c.self.invariant.counted
