@@ -1,5 +1,5 @@
 -- The reply to a command, by what was asked for and the past after it.
-use Rattle.std.specs.Prelude.{ℕ, ℤ, Bool, List, [], ◌++◌, length, map, reverse, take, Option, Some, None}
+use Rattle.std.specs.Prelude.{ℕ, ℤ, Bool, true, false, List, [], ◌++◌, length, map, reverse, take, Option, Some, None}
 use Rattle.std.specs.List.{filter, find}
 use Rattle.tf_model.specs.declared.config.Config.{Config}
 use Rattle.tf_model.specs.declared.config.Shape.{Shape}
@@ -13,6 +13,8 @@ use Rattle.tf_model.specs.declared.tree.Tree.TheVariants as tree
 use Rattle.tf_model.specs.declared.value.Key.{Key}
 use Rattle.tf_model.specs.Changed.{is_after}
 use Rattle.tf_command.specs.declared.command.Command.{Command}
+use Rattle.tf_command.specs.declared.command.Op.{Op}
+use Rattle.tf_command.specs.declared.command.Op.TheVariants as op
 use Rattle.tf_reply.specs.declared.replies.Hit.{Hit}
 use Rattle.tf_reply.specs.declared.replies.Reply.{Reply}
 use Rattle.tf_reply.specs.declared.replies.Reply.TheVariants as reply
@@ -79,3 +81,12 @@ reply_by line before now (answer.Refused r) = reply.Refused line (length now) r
 -- the reply to a command that is done after a past by an actor, where a moment is given, when its entries are there
 abbrev pub replied : List Entry → ℕ → ℤ → Command → Reply
 replied past actor given command = let a = asked past actor given command.op in reply_by command.line past (past_after past a) a.answer
+
+-- ---- after moves
+abbrev pub is_settle : Op → Bool
+is_settle op.Settle = true
+is_settle _ = false
+
+-- the reply to a command when moves were made: what it answers is told by the past before it, and what is shown by the past now
+abbrev pub replied_after : List Entry → List Entry → ℕ → ℤ → Command → Reply
+replied_after before now actor given command = reply_by command.line before now (asked before actor given command.op).answer

@@ -12,6 +12,7 @@ mod giving;
 mod hits;
 mod indices;
 mod making;
+mod moved;
 mod replying;
 mod rows;
 mod standing;
@@ -21,3 +22,4 @@ mod tests;
 mod transforms;
 
 pub use decision::{Decision, decide};
+pub use moved::reply;

@@ -1,5 +1,5 @@
 -- What a command does that settles, and one that does not.
-use Rattle.std.proofs.Common.{◌≡◌, ℤ, ◌++◌, Bool, true, false, List, length, Ok, Err, OnOk, refl, sym, ap, subst, ◌∙◌}
+use Rattle.std.proofs.Common.{◌≡◌, ℤ, ◌++◌, Bool, true, false, List, Ok, Err, OnOk, refl, sym, ap, subst, ◌∙◌}
 use Rattle.std.proofs.lemmas.List.{reverse-append, reverse-reverse}
 use Rattle.std.specs.Prelude.{IfOk, Result, if◌then◌else◌, reverse}
 use Rattle.tf_model.specs.declared.entry.Entry.{Entry}
@@ -8,13 +8,12 @@ use Rattle.tf_command.specs.declared.command.Op.{Op}
 use Rattle.tf_command.specs.declared.command.Op.TheVariants as op
 use Rattle.tf_decide.specs.Asking as decide
 use Rattle.tf_reply.specs.declared.replies.Reply.{Reply}
-use Rattle.tf_reply.specs.declared.replies.Reply.TheVariants as reply
-use Rattle.tf_decide.specs.Replying.{past_after, replied, reply_by}
+use Rattle.tf_decide.specs.Replying.{is_settle, past_after, replied, replied_after, reply_by}
 use Rattle.tf_decide.specs.declared.asked.Answer.TheVariants as answer
 use Rattle.tf_decide.specs.declared.asked.Asked.{Asked}
 use Rattle.tf_serial.specs.Frames.{IsOfCommand, IsOnly}
 use Rattle.tf_serial.specs.Moves.{settled}
-use Rattle.tf_serial.specs.Script.{after_command, asked, given, is_settle, reply_of}
+use Rattle.tf_serial.specs.Script.{after_command, asked, given, reply_of}
 
 asks_nothing : (past : List Entry) (moment : ℤ) (o : Op) → is_settle o ≡ true → decide.asked past 0 moment o ≡ decide.tells answer.Settled
 asks_nothing past moment op.Settle is = refl
@@ -37,14 +36,9 @@ pub entries_after : (past : List Entry) (command : Command) → is_settle comman
 entries_after past command is = ap (λ b. if b then settled (given past command) (past_after past (asked past command)) else past_after past (asked past command)) is
 
 -- ---- replies
-settled_told : (past now : List Entry) (command : Command) → is_settle command.op ≡ true → now ≡ settled (given past command) past → reply.Settled command.line (length now) ≡ reply_of past command
-settled_told past now command is made =
-    ap (λ (l : List Entry). reply.Settled command.line (length l)) (made ∙ sym (settling_after past command is))
-    ∙ ap (λ (a : Asked). reply_by command.line past (after_command past command) a.answer) (sym (settling_asks past command is))
-
-pub settling_reply : {E : Type 0} (r : Result Reply E) (past now : List Entry) (command : Command) → is_settle command.op ≡ true → IfOk r (λ told. told ≡ reply.Settled command.line (length now))
-    → OnOk r (now ≡ settled (given past command) past) → IfOk r (λ told. told ≡ reply_of past command)
-settling_reply (Ok told) past now command is told_is made = told_is ∙ settled_told past now command is made
+pub settling_reply : {E : Type 0} (r : Result Reply E) (past now : List Entry) (command : Command) → is_settle command.op ≡ true
+    → IfOk r (λ told. told ≡ replied_after past now 0 (given past command) command) → OnOk r (now ≡ settled (given past command) past) → IfOk r (λ told. told ≡ reply_of past command)
+settling_reply (Ok told) past now command is told_is made = told_is ∙ ap (λ (l : List Entry). replied_after past l 0 (given past command) command) (made ∙ sym (settling_after past command is))
 settling_reply (Err e) past now command is told_is made = tt
 
 pub entries_reply : (past : List Entry) (command : Command) (moment : ℤ) → is_settle command.op ≡ false → moment ≡ given past command → replied past 0 moment command ≡ reply_of past command

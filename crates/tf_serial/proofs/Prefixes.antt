@@ -1,7 +1,8 @@
 -- Fronts of lists, and how the past behind lines goes on.
-use Rattle.std.proofs.Common.{◌≡◌, ℕ, ℤ, Bool, true, false, Ok, Err, ◌+◌, List, [], ◌∷◌, ◌++◌, Some, refl, sym, ap, subst, ◌∙◌, append_assoc}
+use Rattle.std.proofs.Common.{◌≡◌, ℕ, ℤ, Bool, true, false, Ok, Err, ◌+◌, ◌≤◌, List, [], ◌∷◌, ◌++◌, Some, length, take, refl, sym, ap, subst, ◌∙◌, append_assoc, arith}
 use Rattle.std.specs.Prelude.{Result, if◌then◌else◌, reverse}
-use Rattle.std.proofs.lemmas.List.{append-nil, reverse-append, reverse-reverse}
+use Rattle.std.proofs.Math.Seq.{take-append_seam}
+use Rattle.std.proofs.lemmas.List.{append-nil, length-append, reverse-append, reverse-reverse}
 use mathlib.Core.List.{IsPrefix}
 use Rattle.tf_model.specs.declared.entry.Entry.{Entry}
 use Rattle.tf_command.specs.Commands.{command_of}
@@ -9,7 +10,8 @@ use Rattle.tf_command.specs.Lines.{is_blank}
 use Rattle.tf_command.specs.declared.command.Command.{Command}
 use Rattle.tf_command.specs.declared.command.LineError.{LineError}
 use Rattle.tf_serial.specs.Moves.{next_move, moves, pass, settled}
-use Rattle.tf_serial.specs.Script.{after, after_command, after_line, after_reading, asked, given, is_settle}
+use Rattle.tf_decide.specs.Replying.{is_settle}
+use Rattle.tf_serial.specs.Script.{after, after_command, after_line, after_reading, asked, given}
 use Rattle.tf_serial.proofs.MoveByMove.{moves_keep, moves_on, pass_keeps, settling_keeps}
 
 pub prefix_self : {A : Type 0} (xs : List A) → IsPrefix xs xs
@@ -23,6 +25,12 @@ prefix_through xs ys zs p q = (p.0 ++ q.0, sym (append_assoc xs p.0 q.0) ∙ (ap
 
 pub prefix_same : {A : Type 0} (xs ys : List A) → xs ≡ ys → IsPrefix xs ys
 prefix_same xs ys same = ([], append-nil xs ∙ same)
+
+pub prefix_taken : {A : Type 0} (xs ys : List A) → IsPrefix xs ys → take (length xs) ys ≡ xs
+prefix_taken xs ys p = ap (take (length xs)) (sym p.1) ∙ take-append_seam xs p.0
+
+pub prefix_shorter : {A : Type 0} (xs ys : List A) → IsPrefix xs ys → length xs ≤ length ys
+prefix_shorter xs ys p = omega (arith, ap length p.1, length-append xs p.0)
 
 -- a past told as a history
 pub history_is : {A : Type 0} (history past : List A) → reverse history ≡ past → history ≡ reverse past

@@ -7,7 +7,8 @@ use Rattle.tf_command.specs.declared.command.Command.{Command}
 use Rattle.tf_command.specs.declared.command.LineError.{LineError}
 use Rattle.tf_core.specs.Listing.{ids_after}
 use Rattle.tf_serial.specs.Moves.{moves, next_move, pass, passes}
-use Rattle.tf_serial.specs.Script.{after_line, asked, given, is_settle}
+use Rattle.tf_decide.specs.Replying.{is_settle}
+use Rattle.tf_serial.specs.Script.{after_line, asked, given}
 
 -- behind a history, entries come next as one frame
 abbrev pub Frames : Type 1

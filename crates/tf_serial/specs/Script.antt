@@ -1,12 +1,10 @@
 -- What the lines of a script do to the history, and what is replied to them.
-use Rattle.std.specs.Prelude.{◌≡◌, ℕ, ℤ, ◌+◌, ◌<◌, Bool, true, false, List, [], ◌∷◌, ◌++◌, length, reverse, take, Some, Result, Ok, Err, unwrap_or, if◌then◌else◌}
+use Rattle.std.specs.Prelude.{◌≡◌, ℕ, ℤ, ◌+◌, ◌<◌, List, [], ◌∷◌, ◌++◌, length, reverse, take, Some, Result, Ok, Err, unwrap_or, if◌then◌else◌}
 use Rattle.tf_model.specs.declared.entry.Entry.{Entry}
 use Rattle.tf_command.specs.Commands.{command_of}
 use Rattle.tf_command.specs.Lines.{is_blank}
 use Rattle.tf_command.specs.declared.command.Command.{Command}
 use Rattle.tf_command.specs.declared.command.LineError.{LineError}
-use Rattle.tf_command.specs.declared.command.Op.{Op}
-use Rattle.tf_command.specs.declared.command.Op.TheVariants as op
 use Rattle.tf_reply.specs.Answers.{reply_line}
 use Rattle.tf_reply.specs.Refusals.{line_refusal}
 use Rattle.tf_reply.specs.declared.replies.Reply.{Reply}
@@ -20,7 +18,7 @@ use Rattle.tf_core.specs.Moves.{last_ms_in}
 use Rattle.tf_mapping.specs.Documents.{values_of}
 use Rattle.tf_decide.specs.Asking as decide
 use Rattle.tf_decide.specs.Asking.{refusal_or}
-use Rattle.tf_decide.specs.Replying.{past_after, reply_by}
+use Rattle.tf_decide.specs.Replying.{is_settle, past_after, replied_after}
 use Rattle.tf_decide.specs.declared.asked.Asked.{Asked}
 use Rattle.tf_serial.specs.Moves.{settled}
 
@@ -33,10 +31,6 @@ given past command = unwrap_or command.at_ms (last_ms_in past)
 abbrev pub asked : List Entry → Command → Asked
 asked past command = decide.asked past 0 (given past command) command.op
 
-abbrev pub is_settle : Op → Bool
-is_settle op.Settle = true
-is_settle _ = false
-
 -- the past after a command: after the entries that it asks for, and after the moves of a settling
 abbrev pub after_command : List Entry → Command → List Entry
 after_command past command =
@@ -45,7 +39,7 @@ after_command past command =
 
 -- the reply to a command
 abbrev pub reply_of : List Entry → Command → Reply
-reply_of past command = reply_by command.line past (after_command past command) (asked past command).answer
+reply_of past command = replied_after past (after_command past command) 0 (given past command) command
 
 -- ---- lines
 -- the past after a line that was read

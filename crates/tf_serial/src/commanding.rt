@@ -1,9 +1,8 @@
 // Doing a command.
-ghost use Rattle.std.specs.Prelude.{◌≡◌, ◌++◌, IfErr, IfOk, None, OnOk, length, reverse};
+ghost use Rattle.std.specs.Prelude.{◌≡◌, ◌++◌, IfErr, IfOk, None, OnOk, reverse, true};
 ghost use Rattle.tf_command.specs.Formed.{IsFormed};
-ghost use Rattle.tf_reply.specs.declared.replies.Reply.TheVariants as reply;
 ghost use Rattle.tf_decide.specs.Asking as decide;
-ghost use Rattle.tf_decide.specs.Replying.{past_after, replied};
+ghost use Rattle.tf_decide.specs.Replying.{is_settle as settles, past_after, replied, replied_after};
 ghost use Rattle.tf_serial.specs.Frames.{IsOfCommand, IsOnly, IsSettling};
 ghost use Rattle.tf_serial.specs.Moves.{settled};
 ghost use Rattle.tf_serial.specs.Parts.{Runs, Stops};
@@ -30,12 +29,12 @@ pub fn do_command<D: Disk>(
     ensures reply { IfOk result (λ reply. reply ≡ reply_of (reverse (history_of store.old)) command) }
     ensures after { OnOk result (reverse (history_of store.new) ≡ after_command (reverse (history_of store.old)) command) }
     ensures whole { OnOk result (broken_at store.new ≡ None) }
-    ensures stops { IfErr result (Stops D.meaning (IsOfCommand (spec.is_settle command.op) (reverse (history_of store.old)) command) store.old (reverse (after_command (reverse (history_of store.old)) command)) store.new) }
+    ensures stops { IfErr result (Stops D.meaning (IsOfCommand (settles command.op) (reverse (history_of store.old)) command) store.old (reverse (after_command (reverse (history_of store.old)) command)) store.new) }
     ensures runs { Runs D.meaning store.old store.new }
 {
     let moment = given(store, &command);
     if is_settle(&command.op) {
-        do_moves(alloc, store, command.line, moment)
+        do_moves(alloc, store, &command, moment)
     } else {
         do_entries(store, command, moment)
     }
@@ -53,7 +52,7 @@ fn given<D: Disk>(store: &Store<D>, command: &Command) -> i64
 }
 
 fn is_settle(op: &Op) -> bool
-    ensures { result ≡ spec.is_settle op.now }
+    ensures { result ≡ settles op.now }
 {
     matches!(op, Op::Settle)
 }
@@ -62,21 +61,24 @@ fn is_settle(op: &Op) -> bool
 fn do_moves<D: Disk>(
     alloc: Global,
     store: &mut Store<D>,
-    line: u64,
+    command: &Command,
     moment: i64,
 ) -> Result<Reply, StoreError>
     requires whole { broken_at store.old ≡ None }
-    ensures reply { IfOk result (λ told. told ≡ reply.Settled line (length (reverse (history_of store.new)))) }
+    requires settle { settles command.now.op ≡ true }
+    ensures reply { IfOk result (λ told. told ≡ replied_after (reverse (history_of store.old)) (reverse (history_of store.new)) 0 moment command.now) }
     ensures after { OnOk result (reverse (history_of store.new) ≡ settled moment (reverse (history_of store.old))) }
     ensures whole { OnOk result (broken_at store.new ≡ None) }
     ensures stops { IfErr result (Stops D.meaning (IsSettling moment (reverse (history_of store.old))) store.old (reverse (settled moment (reverse (history_of store.old)))) store.new) }
     ensures runs { Runs D.meaning store.old store.new }
 {
-    settle(alloc, store, moment)?;
-    Ok(Reply::Settled {
-        line,
-        no: store.count(),
-    })
+    let from = store.count();
+    match settle(alloc, store, moment) {
+        Ok(()) => {}
+        Err(error) => return Err(error),
+    }
+    let reply = store.reply(command, from)?;
+    Ok(reply)
 }
 
 // Commits the entries of a command that is no settling, and gives the reply.

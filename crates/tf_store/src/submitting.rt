@@ -1,20 +1,20 @@
 // Submitting a command.
-ghost use Rattle.std.specs.Prelude.{◌≡◌, ◌≤◌, ◌++◌, [], IfOk, length, reverse};
+ghost use Rattle.std.specs.Prelude.{◌≡◌, ◌≤◌, ◌++◌, [], ℕ, ℤ, IfOk, length, reverse, take, true};
 ghost use Rattle.std.specs.List.{AllByRecursion};
 ghost use Rattle.tf_command.specs.Formed.{IsFormed};
 ghost use Rattle.tf_event.specs.Entries.{FitsEntry};
 ghost use Rattle.tf_event.specs.declared.grammar.Grammar.TheVariants.{First};
 ghost use Rattle.tf_core.specs.Legal.{AreTakenAfter};
-ghost use Rattle.tf_decide.specs.Replying.{replied};
+ghost use Rattle.tf_decide.specs.Replying.{is_settle, replied, replied_after};
 ghost use Rattle.tf_store.specs.Answers.{OnNoCall, SubmitAnswers, broken_after, counted, failed_after, history_after};
 ghost use Rattle.tf_store.specs.Commands.{entries_of};
 
 use crate::error::StoreError;
 use crate::state::Store;
 use tf_command::Command;
-use tf_decide::decide;
+use tf_decide::{decide, reply};
 use tf_disk::Disk;
-use tf_model::{Entry, List};
+use tf_model::{Entry, List, OutOfMemory};
 use tf_reply::Reply;
 
 impl<D: Disk> Store<D> {
@@ -48,6 +48,15 @@ impl<D: Disk> Store<D> {
         let decision = decide(self.alloc, &self.core, command, actor, now)?;
         self.commit_any(decision.entries)?;
         Ok(decision.reply)
+    }
+
+    /// The reply to a settling when its moves are made. The history had `from` entries before it.
+    pub fn reply(&self, command: &Command, from: u64) -> Result<Reply, OutOfMemory>
+        requires from { from ≤ length (history_of self.now) }
+        requires settle { is_settle command.now.op ≡ true }
+        ensures { IfOk result (λ reply. (actor : ℕ) (given : ℤ) → reply ≡ replied_after (reverse (take from (history_of self.now))) (reverse (history_of self.now)) actor given command.now) }
+    {
+        reply(&self.core, command, from)
     }
 
     // Makes the history longer by entries where there are any.

@@ -6,7 +6,8 @@ use Rattle.tf_store.specs.Commands.{entries_of}
 use Rattle.tf_store.specs.Words.{broken_at, disk_of, failed_of, file_len, history_of}
 use Rattle.tf_serial.specs.Frames.{IsOfCommand, IsOnly}
 use Rattle.tf_serial.specs.Parts.{Stops}
-use Rattle.tf_serial.specs.Script.{asked, given, is_settle}
+use Rattle.tf_decide.specs.Replying.{is_settle}
+use Rattle.tf_serial.specs.Script.{asked, given}
 use Rattle.tf_serial.proofs.Commands.{entries_frame, entries_whole}
 use Rattle.tf_serial.proofs.Stopping.{stop_in}
 use Rattle.tf_serial.proofs.commanding.do_command.Goals as goal
