@@ -1,8 +1,8 @@
 -- Fronts of lists, and how the past behind lines goes on.
-use Rattle.std.proofs.Common.{◌≡◌, ℕ, ℤ, Bool, true, false, Ok, Err, ◌+◌, ◌≤◌, List, [], ◌∷◌, ◌++◌, Some, length, take, refl, sym, ap, subst, ◌∙◌, append_assoc, arith}
+use Rattle.std.proofs.Common.{◌≡◌, ℕ, ℤ, Bool, true, false, Ok, Err, ◌+◌, List, [], ◌∷◌, ◌++◌, Some, length, take, refl, sym, ap, subst, ◌∙◌, append_assoc}
 use Rattle.std.specs.Prelude.{Result, if◌then◌else◌, reverse}
 use Rattle.std.proofs.Math.Seq.{take-append_seam}
-use Rattle.std.proofs.lemmas.List.{append-nil, length-append, reverse-append, reverse-reverse}
+use Rattle.std.proofs.lemmas.List.{append-nil, reverse-append, reverse-reverse}
 use mathlib.Core.List.{IsPrefix}
 use Rattle.tf_model.specs.declared.entry.Entry.{Entry}
 use Rattle.tf_command.specs.Commands.{command_of}
@@ -28,9 +28,6 @@ prefix_same xs ys same = ([], append-nil xs ∙ same)
 
 pub prefix_taken : {A : Type 0} (xs ys : List A) → IsPrefix xs ys → take (length xs) ys ≡ xs
 prefix_taken xs ys p = ap (take (length xs)) (sym p.1) ∙ take-append_seam xs p.0
-
-pub prefix_shorter : {A : Type 0} (xs ys : List A) → IsPrefix xs ys → length xs ≤ length ys
-prefix_shorter xs ys p = omega (arith, ap length p.1, length-append xs p.0)
 
 -- a past told as a history
 pub history_is : {A : Type 0} (history past : List A) → reverse history ≡ past → history ≡ reverse past
