@@ -29,20 +29,6 @@ pub fn key_of(alloc: Global, config: &Config, doc: &Doc) -> Result<Option<Key>, 
     }
 }
 
-/// The keys of a document, ascending and each once: none or one. The error is want of memory alone.
-#[tactic(auto, unfolding(tf_model::specs::Keys::keys_of))]
-pub fn keys_of(alloc: Global, config: &Config, doc: &Doc) -> Result<List<Key>, OutOfMemory>
-    requires config { IsInRange config.now }
-    requires doc { Fits config.now doc.now }
-    ensures { IfOk result (λ keys. keys ≡ spec.keys_of config.now doc.now) }
-{
-    let mut keys = List::new(alloc);
-    if let Some(key) = key_of(alloc, config, doc)? {
-        keys.push(key)?;
-    }
-    Ok(keys)
-}
-
 // The key of a document of a latest transform.
 fn latest_key(alloc: Global, unique_key: &List<Text>, doc: &Doc) -> Result<Key, OutOfMemory>
     ensures { IfOk result (λ key. key ≡ spec.latest_key doc.now unique_key.now) }

@@ -9,8 +9,5 @@ mod reading;
 
 pub use comparing::compare_key;
 pub use ids::id_text;
-pub use keys::{key_of, keys_of};
+pub use keys::key_of;
 pub use reading::read_key;
-
-#[cfg(test)]
-mod tests;

@@ -4,6 +4,3 @@
 mod read;
 
 pub use read::{JsonError, line_is_read, read_object, read_tree};
-
-#[cfg(test)]
-mod tests;

@@ -22,6 +22,3 @@ pub use laws::stamped_is_written;
 pub use mappings::read_mapping;
 pub use routing::route;
 pub use stamping::{put_stamp, stamped};
-
-#[cfg(test)]
-mod tests;

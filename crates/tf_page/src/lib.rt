@@ -10,6 +10,3 @@ mod fates;
 mod least;
 
 pub use changed::{Changed, changed_after};
-
-#[cfg(test)]
-mod tests;

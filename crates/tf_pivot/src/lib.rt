@@ -10,6 +10,3 @@ mod rows;
 
 pub use error::PivotError;
 pub use rows::rows_for;
-
-#[cfg(test)]
-mod tests;

@@ -7,10 +7,10 @@ ghost use Rattle.tf_model.specs.Query.{passes};
 use crate::matching::matches;
 use tf_model::{Config, Doc, Value};
 
-/// Whether a document matches the query and, where there is a bound, has a sync value below it. The bound is in
-/// milliseconds since 1970. Takes no memory.
+// Whether a document matches the query and, where there is a bound, has a sync value below it. The bound is in
+// milliseconds since 1970.
 #[tactic(auto, unfolding(tf_model::specs::Counted::counts))]
-pub fn counts(config: &Config, bound: Option<i64>, doc: &Doc) -> bool
+fn counts(config: &Config, bound: Option<i64>, doc: &Doc) -> bool
     ensures { result ≡ spec.counts config.now bound doc.now }
 {
     if !matches(&config.query, doc) {

@@ -14,12 +14,9 @@ mod unknown;
 mod unmapped;
 mod values;
 
-pub use counting::{counts, is_in_window};
+pub use counting::is_in_window;
 pub use error::QueryError;
 pub use matching::matches;
 pub use nesting::nests_within;
 pub use reading::read_query;
 pub use typing::has_types;
-
-#[cfg(test)]
-mod tests;

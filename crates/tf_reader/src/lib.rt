@@ -4,8 +4,6 @@
 mod place;
 mod reader;
 mod scanning;
-#[cfg(test)]
-mod tests;
 
 pub use place::Place;
 pub use reader::Reader;

@@ -14,6 +14,3 @@ pub use date::{DateError, read_date};
 pub use floor::floor_to;
 pub use print::print_date;
 pub use span::{NotASpan, read_span};
-
-#[cfg(test)]
-mod tests;
