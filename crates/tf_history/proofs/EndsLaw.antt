@@ -16,7 +16,7 @@ use Rattle.tf_model.specs.Changed.{is_after}
 use Rattle.tf_history.specs.Events.{Deed, Event}
 use Rattle.tf_history.specs.Events.Deed.{Stopped as StoppedDeed, Page, Finish}
 use Rattle.tf_history.specs.Histories.{BatchMovesEnd, IsRightEvent}
-use Rattle.tf_history.specs.Legality.{IsAllowed, IsLegal, IsRight, IsRunning, MayFinish, MayPage, move_of, page_move, fail_move, begin_move, next_move, next_page, next_checkpoint, to_do, failing, row_now, sum_now, moves_left, may_stop, is_started, is_due, is_active}
+use Rattle.tf_history.specs.Legality.{IsAllowed, IsLegal, IsRight, IsRunning, MayFinish, MayPage, move_of, page_move, fail_move, begin_move, next_move, next_page, next_checkpoint, to_do, failing, row_now, sum_now, batch_moves_left, may_stop, is_started, is_due, is_active}
 use Rattle.tf_history.specs.Lives.{Life, Act, life, life_after, lived, act, documents, changed, window, counted_last, is_running, last_key, is_same, after_finish}
 use Rattle.tf_history.specs.Lives.Act.{Begins, Pages, Finishes, Turns}
 use Rattle.tf_history.specs.Lives.Turn.{Stops, Fails}
@@ -96,7 +96,7 @@ module _ (past : List Event) (t : List ℕ) (moment : ℤ) (l : Life) (is : life
 
   -- the life after a deed has the meaning, and fewer moves than so many
   abbrev Leaves : ℕ → Life → Type 0
-  Leaves most now = (now.meaning ≡ l.meaning) × ((docs : List Doc) → moves_left now docs moment < most)
+  Leaves most now = (now.meaning ≡ l.meaning) × ((docs : List Doc) → batch_moves_left now docs moment < most)
 
   abbrev After : ℕ → Deed → Type 0
   After most deed = IsSomeAnd (life t (event deed ∷ past)) (Leaves most)

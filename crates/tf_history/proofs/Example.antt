@@ -1,6 +1,7 @@
 -- Worked histories, by computation. In the first a pivot sums cents by customer: two Pages with a stop between them, a
--- document at the bound that waits, and a second checkpoint.
-use Rattle.std.proofs.Common.{◌≡◌, ℕ, true, false, List, [], ◌∷◌, ◌++◌, Option, Some, None, arith, refl, sym, ap, ◌∙◌, subst, take, drop}
+-- document at the bound that waits, and a second checkpoint. The others show a sum that fails, what retention takes out, and
+-- the ties of a latest.
+use Rattle.std.proofs.Common.{◌≡◌, ℕ, true, false, List, [], ◌∷◌, ◌++◌, Option, Some, None, arith, refl, sym, ap, ◌∙◌, subst, take, drop, map}
 use Rattle.std.specs.Prelude.{pos, codes, option_map}
 use Rattle.std.specs.List.Sorted.{IsStrictlySortedBy}
 use Rattle.std.proofs.lemmas.Int.{ints}
@@ -15,20 +16,24 @@ use Rattle.tf_model.specs.declared.config.Agg.{Agg}
 use Rattle.tf_model.specs.declared.config.Shape.TheVariants as shape
 use Rattle.tf_model.specs.declared.config.GroupKind.TheVariants.{Terms}
 use Rattle.tf_model.specs.declared.config.AggKind.TheVariants.{Sum, Max}
+use Rattle.tf_model.specs.declared.task.State.TheVariants as state
+use Rattle.tf_model.specs.declared.value.Key.{Key}
 use Rattle.tf_model.specs.declared.entry.Row.{Row}
 use Rattle.tf_model.specs.declared.entry.Row.TheVariants as row
 use Rattle.tf_model.specs.Order.{key_cmp, value_cmp}
+use Rattle.tf_model.specs.Query.{meets}
 use Rattle.tf_model.specs.Values.{value_of}
 use Rattle.tf_model.specs.Keys.{key_of, keys_of, floor_to}
 use Rattle.tf_model.specs.Retention.{retained}
 use Rattle.tf_model.specs.Bounds.{aligned}
+use Rattle.tf_model.specs.Latest.{age_cmp, place_cmp, sort_cmp}
 use Rattle.tf_model.proofs.QueryLaws.{meets_all}
 use Rattle.tf_history.specs.Meaning.{Meaning}
 use Rattle.tf_history.specs.Events.{Deed, Event}
-use Rattle.tf_history.specs.Events.Deed.{Index, Write, Put, Start, Stopped, Begin, Page, Finish, StopAsked}
+use Rattle.tf_history.specs.Events.Deed.{Index, Write, Put, Start, Stopped, Begin, Page, Finish, Fail, StopAsked}
 use Rattle.tf_history.specs.Grouping.{scratch}
 use Rattle.tf_history.specs.Configured.{meaning}
-use Rattle.tf_history.specs.Lives.{Life, written}
+use Rattle.tf_history.specs.Lives.{Life, cutoff, written}
 use Rattle.tf_history.specs.Legality.{IsLegal, next_move}
 use Rattle.tf_history.specs.Legality.{IsAllowed}
 use Rattle.tf_history.specs.Histories.{past_of, life_of, AllRight}
@@ -66,6 +71,16 @@ plain agg retention = record (real agg retention) { matches = λ d. true }
 
 plain_is : (agg : Agg) (retention : Option Retention) → plain agg retention ≡ real agg retention
 plain_is agg retention = λ i. record (real agg retention) { matches = λ d. sym (meets_all d) i }
+
+-- the meaning of a configuration over numbered sources, and the same without the test of the query
+abbrev meant : List ℕ → Config → Meaning
+meant sources c = meaning sources c
+
+abbrev untested : List ℕ → Config → Meaning
+untested sources c = record (meant sources c) { matches = λ d. true }
+
+untested_is : (sources : List ℕ) (c : Config) → c.query ≡ query.MatchAll → untested sources c ≡ meant sources c
+untested_is sources c e = λ i. record (meant sources c) { matches = λ d. sym (ap (meets d) e ∙ meets_all d) i }
 
 abbrev document : ℕ → ℕ → ℕ → ℕ → Doc
 document seq customer cents ts = record {
@@ -282,6 +297,132 @@ both_were_there = ap (λ c. rows_of (life_of t (take 10 (aged_history c)))) (sym
 one_is_counted_as_deleted : option_map (λ (l : Life). l.deleted) (life_of t (aged_history aged)) ≡ Some 1
 unfolding key_cmp value_cmp value_of keys_of key_of floor_to aligned retained
 one_is_counted_as_deleted = ap (λ c. option_map (λ (l : Life). l.deleted) (life_of t (aged_history c))) (sym (plain_is last two_ms)) ∙ refl
+
+-- a batch transform of the same: a row whose value is missing stays, and so does one at the cutoff, which is that of the Begin
+abbrev once_aged : Config
+once_aged = record (by_customer last two_ms) { sync = None; page_size = 10 }
+
+abbrev undated : ℕ → ℕ → Doc
+undated seq customer = record {
+  index = 0;
+  shard = 0;
+  seq = seq;
+  id = seq ∷ [];
+  tree = tree.Null;
+  values = (codes "customer", value.Str (customer ∷ [])) ∷ [];
+}
+
+abbrev once_aged_history : Meaning → List Event
+once_aged_history c =
+    at 0 Index ∷ at 0 (Put t c) ∷ at 1 (Write (document 0 1 10 3)) ∷ at 1 (Write (undated 1 2)) ∷ at 1 (Write (document 2 3 10 4)) ∷ at 1 (Start t)
+    ∷ at 6 (Begin t 1 None) ∷ at 9 (Page t 1 (last_row 1 3 ∷ row_with 2 value.Null ∷ last_row 3 4 ∷ [])) ∷ at 9 (Finish t 1) ∷ []
+
+missing_and_new_enough_rows_stay : rows_of (life_of t (once_aged_history (meant (0 ∷ []) once_aged))) ≡ row_with 2 value.Null ∷ last_row 3 4 ∷ []
+unfolding key_cmp value_cmp value_of keys_of key_of floor_to aligned retained
+missing_and_new_enough_rows_stay = ap (λ c. rows_of (life_of t (once_aged_history c))) (sym (untested_is (0 ∷ []) once_aged refl)) ∙ refl
+
+page_shows_what_is_missing : next_move t (past_of (take 7 (once_aged_history (meant (0 ∷ []) once_aged)))) (pos 9) ≡ Some (Page t 1 (last_row 1 3 ∷ row_with 2 value.Null ∷ last_row 3 4 ∷ []))
+unfolding key_cmp value_cmp value_of keys_of key_of floor_to aligned retained
+page_shows_what_is_missing = ap (λ c. next_move t (past_of (take 7 (once_aged_history c))) (pos 9)) (sym (untested_is (0 ∷ []) once_aged refl)) ∙ refl
+
+-- of two checkpoints the second at a moment before the first
+cutoff_never_falls :
+    cutoff aged (record { bound = Some (pos 5); moment = pos 6; read = []; late = 0 } ∷ record { bound = Some (pos 9); moment = pos 10; read = []; late = 0 } ∷ []) ≡ Some (pos 8)
+cutoff_never_falls = refl
+
+-- ---- sums outside i64: of three customers two have one
+abbrev by_ten : Config
+by_ten = record (by_customer total None) { page_size = 10 }
+
+abbrev wide_documents : List Doc
+wide_documents =
+    document 0 3 9223372036854775807 1 ∷ document 1 2 9223372036854775807 1 ∷ document 2 1 5 1 ∷ document 3 2 1 1 ∷ document 4 3 2 1 ∷ []
+
+abbrev wide_history : Meaning → List Event
+wide_history c = at 0 Index ∷ at 0 (Put t c) ∷ map (λ d. at 1 (Write d)) wide_documents ++ at 2 (Start t) ∷ at 4 (Begin t 1 (Some (pos 3))) ∷ []
+
+abbrev customer_2 : Key
+customer_2 = record { parts = value.Str (2 ∷ []) ∷ [] }
+
+-- it names the least key that has no row, and its sum
+abbrev the_fail : Deed
+the_fail = Fail t 1 customer_2 (codes "total") (pos 9223372036854775808)
+
+abbrev failed_history : Meaning → List Event
+failed_history c = wide_history c ++ at 4 the_fail ∷ []
+
+abbrev from_untested : {X : Type 0} (f : Meaning → X) (x : X) → f (untested (0 ∷ []) by_ten) ≡ x → f (meant (0 ∷ []) by_ten) ≡ x
+from_untested f x e = ap f (sym (untested_is (0 ∷ []) by_ten refl)) ∙ e
+
+least_failing_key_is_told : next_move t (past_of (wide_history (meant (0 ∷ []) by_ten))) (pos 4) ≡ Some the_fail
+unfolding key_cmp value_cmp value_of keys_of key_of floor_to aligned retained
+least_failing_key_is_told = from_untested (λ c. next_move t (past_of (wide_history c)) (pos 4)) _ refl
+
+-- with Pages of one row the key below it is written first
+keys_before_it_are_written : next_move t (past_of (wide_history sums)) (pos 4) ≡ Some (Page t 1 (sum_row 1 5 ∷ []))
+unfolding key_cmp value_cmp value_of keys_of key_of floor_to aligned retained
+keys_before_it_are_written = from_plain (λ c. next_move t (past_of (wide_history c)) (pos 4)) _ refl
+
+fail_allowed : IsAllowed (pos 4) the_fail (past_of (wide_history (untested (0 ∷ []) by_ten)))
+unfolding key_cmp value_cmp value_of keys_of key_of floor_to aligned retained
+fail_allowed = record { running = (refl, refl); active = refl; first = refl; tells = refl }
+
+it_is_failed : option_map (λ (l : Life). l.state) (life_of t (failed_history (meant (0 ∷ []) by_ten))) ≡ Some state.Failed
+unfolding key_cmp value_cmp value_of keys_of key_of floor_to aligned retained
+it_is_failed = from_untested (λ c. option_map (λ (l : Life). l.state) (life_of t (failed_history c))) _ refl
+
+its_reason_is_kept :
+    option_map (λ (l : Life). l.reason) (life_of t (failed_history (meant (0 ∷ []) by_ten))) ≡ Some (Some (record { key = customer_2; name = codes "total"; value = pos 9223372036854775808 }))
+unfolding key_cmp value_cmp value_of keys_of key_of floor_to aligned retained
+its_reason_is_kept = from_untested (λ c. option_map (λ (l : Life). l.reason) (life_of t (failed_history c))) _ refl
+
+it_has_no_rows : rows_of (life_of t (failed_history (meant (0 ∷ []) by_ten))) ≡ []
+unfolding key_cmp value_cmp value_of keys_of key_of floor_to aligned retained
+it_has_no_rows = from_untested (λ c. rows_of (life_of t (failed_history c))) _ refl
+
+nothing_while_failed : next_move t (past_of (failed_history (meant (0 ∷ []) by_ten))) (pos 9) ≡ None
+unfolding key_cmp value_cmp value_of keys_of key_of floor_to aligned retained
+nothing_while_failed = from_untested (λ c. next_move t (past_of (failed_history c)) (pos 9)) _ refl
+
+-- ---- a latest by customer, sorted by cents, over the indices 1 and 0 in this order
+abbrev newest_by_customer : Config
+newest_by_customer = record (by_customer total None) { sources = codes "later" ∷ codes "orders" ∷ []; shape = shape.Latest (codes "customer" ∷ []) (codes "cents") }
+
+-- a document of customer 1 in a shard of an index
+abbrev placed : ℕ → ℕ → ℕ → ℕ → Doc
+placed index shard seq cents = record (document seq 1 cents 1) { index = index; shard = shard }
+
+abbrev latest_history : List Doc → Meaning → List Event
+latest_history docs c =
+    at 0 Index ∷ at 0 Index ∷ at 0 (Put t c) ∷ map (λ d. at 1 (Write d)) docs ++ at 2 (Start t) ∷ at 4 (Begin t 1 (Some (pos 3))) ∷ []
+
+-- what the indexer makes of documents
+abbrev made_of : List Doc → Meaning → Option Deed
+made_of docs c = next_move t (past_of (latest_history docs c)) (pos 4)
+
+-- the Page of one row that names a document
+abbrev names_it : ℕ → ℕ → ℕ → Option Deed
+names_it index shard seq = Some (Page t 1 (row.Latest (record { parts = value.Str (1 ∷ []) ∷ [] }) index shard seq ∷ []))
+
+abbrev from_latest : (docs : List Doc) (made : Option Deed) → made_of docs (untested (1 ∷ 0 ∷ []) newest_by_customer) ≡ made → made_of docs (meant (1 ∷ 0 ∷ []) newest_by_customer) ≡ made
+from_latest docs made e = ap (made_of docs) (sym (untested_is (1 ∷ 0 ∷ []) newest_by_customer refl)) ∙ e
+
+greatest_sort_value_wins_over_a_later_arrival :
+    made_of (placed 0 0 0 20 ∷ placed 0 0 1 10 ∷ []) (meant (1 ∷ 0 ∷ []) newest_by_customer) ≡ names_it 0 0 0
+unfolding key_cmp value_cmp value_of keys_of key_of floor_to aligned retained age_cmp place_cmp sort_cmp
+greatest_sort_value_wins_over_a_later_arrival = from_latest (placed 0 0 0 20 ∷ placed 0 0 1 10 ∷ []) (names_it 0 0 0) refl
+
+later_source_wins_a_tie : made_of (placed 0 0 0 20 ∷ placed 1 3 7 20 ∷ []) (meant (1 ∷ 0 ∷ []) newest_by_customer) ≡ names_it 0 0 0
+unfolding key_cmp value_cmp value_of keys_of key_of floor_to aligned retained age_cmp place_cmp sort_cmp
+later_source_wins_a_tie = from_latest (placed 0 0 0 20 ∷ placed 1 3 7 20 ∷ []) (names_it 0 0 0) refl
+
+greater_shard_wins_a_tie : made_of (placed 0 1 0 20 ∷ placed 0 0 7 20 ∷ []) (meant (1 ∷ 0 ∷ []) newest_by_customer) ≡ names_it 0 1 0
+unfolding key_cmp value_cmp value_of keys_of key_of floor_to aligned retained age_cmp place_cmp sort_cmp
+greater_shard_wins_a_tie = from_latest (placed 0 1 0 20 ∷ placed 0 0 7 20 ∷ []) (names_it 0 1 0) refl
+
+greater_number_wins_a_tie : made_of (placed 0 1 1 20 ∷ placed 0 1 0 20 ∷ []) (meant (1 ∷ 0 ∷ []) newest_by_customer) ≡ names_it 0 1 1
+unfolding key_cmp value_cmp value_of keys_of key_of floor_to aligned retained age_cmp place_cmp sort_cmp
+greater_number_wins_a_tie = from_latest (placed 0 1 1 20 ∷ placed 0 1 0 20 ∷ []) (names_it 0 1 1) refl
 
 -- ---- entries: a whole legal history of one index, one transform and one document
 abbrev reads : ValuesOf

@@ -12,7 +12,7 @@ use Rattle.tf_model.specs.declared.entry.Entry.{Entry}
 use Rattle.tf_history.specs.Catalogue.{catalogue}
 use Rattle.tf_history.specs.Events.{Deed, Event}
 use Rattle.tf_history.specs.Events.Deed.{Stopped}
-use Rattle.tf_history.specs.Legality.{IsAllowed, IsNotBefore, begin_move, failing, is_active, is_due, is_started, may_stop, move_of, moves_left, next_checkpoint, next_page, page_move, to_do}
+use Rattle.tf_history.specs.Legality.{IsAllowed, IsNotBefore, begin_move, failing, is_active, is_due, is_started, may_stop, move_of, batch_moves_left, next_checkpoint, next_page, page_move, to_do}
 use Rattle.tf_history.specs.Legality as legality
 use Rattle.tf_history.specs.Lives.{Life, act, changed, documents, is_running, is_same, life, life_after, writes}
 use Rattle.tf_history.specs.Lives.Act.{Aside}
@@ -120,7 +120,7 @@ module _ (given : ℤ) (id : List ℕ) (past : List Entry) (e : Entry) (is : nex
   -- ---- its own transform, where each is batch
   module _ (batch : AreBatch past) where
     abbrev Lived : Life → Life → Type 0
-    Lived l now = (now.meaning ≡ l.meaning) × ((docs : List Doc) → moves_left now docs moment < moves_left l (documents (read past)) moment)
+    Lived l now = (now.meaning ≡ l.meaning) × ((docs : List Doc) → batch_moves_left now docs moment < batch_moves_left l (documents (read past)) moment)
 
     pub record Own : Type 0 where
       pub was : Life
