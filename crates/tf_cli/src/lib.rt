@@ -10,6 +10,4 @@ pub use top::{End, run_top};
 pub use words::file_word;
 
 #[cfg(test)]
-mod pivot_tests;
-#[cfg(test)]
 mod tests;
