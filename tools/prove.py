@@ -5,7 +5,7 @@
 
 `rt` proves one crate of a copy of the repository at a time, since it locks all that the crate stands on. So each processor gets a
 copy of its own (a lane). A crate is begun, in a free lane, as soon as all that it stands on are proved, those with the most work
-behind them first, and gets the processors that no other crate waits for. `rt` takes the libraries below a crate from the lanes
+behind them first; one that nothing runs beside gets a job for each processor. `rt` takes the libraries below a crate from the lanes
 that proved them, as it does among all checkouts of a machine; so does `rt run`, which ends it in the program's own folder.
 """
 import concurrent.futures
@@ -16,6 +16,8 @@ import sys
 import tempfile
 
 PARTS = ("src", "specs", "proofs")
+# How many jobs a crate gets beside others: more than one, so that a long one does not hold up those above it on one processor.
+BESIDE = 2
 
 
 def read_crates(top):
@@ -99,19 +101,15 @@ def prove_all(crates, weights, lanes):
     with concurrent.futures.ThreadPoolExecutor(len(lanes)) as pool:
         while waiting or running:
             ready = [it for it in waiting if proved.issuperset(crates[it])]
-            idle = len(lanes) - sum(jobs for _, _, jobs in running.values())
-            for at, name in enumerate(ready):
-                if idle < 1:
-                    break
-                jobs = max(1, idle // (len(ready) - at))
+            jobs = BESIDE if len(ready) + len(running) > 1 else len(lanes)
+            for name in ready[: len(free)]:
                 waiting.remove(name)
                 lane = free.pop()
-                idle -= jobs
                 tell(f"proving {name}, {len(waiting) + 1} crates are left")
-                running[pool.submit(call, f"{lane}/crates/{name}", "lib", "--jobs", str(jobs))] = name, lane, jobs
+                running[pool.submit(call, f"{lane}/crates/{name}", "lib", "--jobs", str(jobs))] = name, lane
             done = concurrent.futures.wait(running, return_when=concurrent.futures.FIRST_COMPLETED).done
             for it in done:
-                name, lane, _ = running.pop(it)
+                name, lane = running.pop(it)
                 if it.result() is not None:
                     return f"{name} is not proved:\n{it.result()}"
                 proved.add(name)
