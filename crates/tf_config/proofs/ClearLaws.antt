@@ -48,7 +48,7 @@ clear_by indices need_dest query c none =
     let lists = none_of_both (too_long c) (too_deep c) many.0 in
     record {
       empty_lists = all.0;
-      mistyped = all.1.0;
+      unfit_query = all.1.0;
       too_long = lists.0;
       too_deep = lists.1;
       ill_named = all.1.1.1.0;
@@ -76,7 +76,7 @@ pub none_refused : (indices : Indices) (need_dest : Bool) (c : Config) → IsCle
 unfolding refusal_by
 none_refused indices need_dest c clear = λ i. first_refusal (
     (error.Missing, clear.empty_lists i)
-    ∷ (error.WrongKind, clear.mistyped i)
+    ∷ (error.WrongKind, clear.unfit_query i)
     ∷ (error.TooMany, (clear.too_long i ++ clear.too_deep i) ++ [])
     ∷ (error.BadName, clear.ill_named i)
     ∷ (error.NoSuchIndex, clear.absent_sources i)

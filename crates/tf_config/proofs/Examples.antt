@@ -1,5 +1,5 @@
 -- Worked checks, by computation.
-use Rattle.std.proofs.Common.{◌≡◌, ℕ, true, false, List, [], ◌∷◌, Some, None, refl}
+use Rattle.std.proofs.Common.{◌≡◌, ℕ, Bool, true, false, List, [], ◌∷◌, Option, Some, None, refl}
 use Rattle.std.specs.Prelude.{pos, neg_ℤ, codes}
 use Rattle.tf_model.specs.declared.config.Agg.{Agg}
 use Rattle.tf_model.specs.declared.config.AggKind.TheVariants.{Sum, Max}
@@ -9,12 +9,15 @@ use Rattle.tf_model.specs.declared.config.GroupKind.TheVariants.{Terms, DateHist
 use Rattle.tf_model.specs.declared.config.Shape.{Shape}
 use Rattle.tf_model.specs.declared.config.Shape.TheVariants.{Pivot, Latest}
 use Rattle.tf_model.specs.declared.query.FieldType.TheVariants.{Keyword, Long, Date}
+use Rattle.tf_model.specs.declared.query.Query.{Query}
 use Rattle.tf_model.specs.declared.query.Query.TheVariants as query
+use Rattle.tf_model.specs.declared.value.Value.{Value}
+use Rattle.tf_model.specs.declared.value.Value.TheVariants as value
 use Rattle.tf_model.specs.Names.{is_index_name}
 use Rattle.tf_model.specs.Values.{type_of}
-use Rattle.tf_query.proofs.FieldLaws.{fields_all}
-use Rattle.tf_query.proofs.NestingLaws.{nesting_all}
-use Rattle.tf_query.proofs.TypeLaws.{types_all}
+use Rattle.tf_query.proofs.FieldLaws.{fields_all, fields_range}
+use Rattle.tf_query.proofs.NestingLaws.{nesting_all, nesting_range}
+use Rattle.tf_query.proofs.TypeLaws.{types_all, types_range}
 use Rattle.tf_config.specs.declared.error.ConfigError.TheVariants as error
 use Rattle.tf_config.specs.Catalogue.{Indices, fields_of}
 use Rattle.tf_config.specs.Refusals.{refusal_by, refusal_of, passes}
@@ -64,6 +67,19 @@ a_continuous_latest_passes : passes indices (record (batch (codes "orders" ∷ c
 }) ≡ true
 unfolding refusal_by fields_of type_of is_index_name
 a_continuous_latest_passes = simp (types_all, nesting_all, fields_all) refl
+
+-- a pivot over the prices between two ends
+abbrev between : Option Value → Bool → Option Value → Bool → Config
+between low low_open high high_open = record (batch (codes "orders" ∷ []) (Pivot (by_customer ∷ []) [])) { query = query.Range (codes "price") low low_open high high_open }
+
+a_range_without_an_end_is_refused : refusal_of indices (between None false None false) ≡ Some (error.WrongKind (codes "source.query"))
+unfolding refusal_by fields_of type_of is_index_name
+a_range_without_an_end_is_refused = simp (types_range, nesting_range, fields_range) refl
+
+-- of an end that is not there it is not asked whether it is open
+an_open_end_that_is_not_there_passes : passes indices (between None true (Some (value.Int (pos 5))) false) ≡ true
+unfolding refusal_by fields_of type_of is_index_name
+an_open_end_that_is_not_there_passes = simp (types_range, nesting_range, fields_range) refl
 
 -- of an absent field and a field of two types the absent one is told
 absent_fields_come_first : refusal_of indices (batch (codes "orders" ∷ codes "returns" ∷ []) (Pivot (record by_customer { field = codes "town" } ∷ []) (total ∷ []))) ≡ Some (error.NoSuchField (codes "town"))

@@ -20,7 +20,7 @@ use Rattle.tf_config.specs.declared.table.Form.TheVariants as form
 use Rattle.tf_config.specs.declared.table.Object.{Object}
 use Rattle.tf_config.specs.declared.table.Object.TheVariants as object
 use Rattle.tf_config.specs.Catalogue.{Indices, fields_of}
-use Rattle.tf_config.specs.Checks.{told_if, is_empty, empty_in_shape, mistyped, empty_lists}
+use Rattle.tf_config.specs.Checks.{told_if, is_empty, empty_in_shape, unfit_query, empty_lists}
 use Rattle.tf_config.specs.Drafts.{beside, texts_in, texts_or_none, names_by, names_or_none, only, group_by, group_of, groups, shape_by, sources, drafted}
 use Rattle.tf_config.specs.Forms.{Found, Faults, faults_step, faults_of, faults_beside, faults_each, form_faults, paths, is_unknown_fault, is_missing_fault, is_wrong_kind_fault, unknown_member, missing_members, miscounted, absent_of, missing_aggs, absent, in_member, in_members, in_names, in_object, in_items, in_list, if_empty}
 use Rattle.tf_config.specs.Members.{names_of}
@@ -260,7 +260,7 @@ lists_clean need_dest t q none one =
     ap₂ (λ xs ys. xs ++ ys) (none_told (is_empty (sources t)) (codes "source.index") names) shape
 
 -- ---- the query
-typed_draft : (indices : Indices) (t : Tree) → mistyped indices (drafted (kept (query_of indices t)) t) ≡ []
+typed_draft : (indices : Indices) (t : Tree) → unfit_query indices (drafted (kept (query_of indices t)) t) ≡ []
 unfolding drafted
 typed_draft indices t = ap (λ b. told_if (not b) (codes "source.query")) (kept_typed (fields_of indices (sources t)) (query_tree t))
 

@@ -5,7 +5,7 @@ use Rattle.std.specs.List.{AllByRecursion, cons_option}
 use Rattle.std.specs.Str.{bytes_eq}
 use Rattle.tf_model.specs.declared.config.Config.{Config}
 use Rattle.tf_model.specs.declared.query.Mapping.{Mapping}
-use Rattle.tf_query.specs.Types.{has_types}
+use Rattle.tf_query.specs.Types.{suits_fields}
 use Rattle.tf_config.specs.declared.error.ConfigError.{ConfigError}
 use Rattle.tf_config.specs.declared.error.ConfigError.TheVariants as error
 use Rattle.tf_config.specs.Catalogue.{Indices, mapping_named, mappings_of, fields_in, fields_of}
@@ -51,7 +51,7 @@ refusal_over : List Mapping → List (List ℕ) → Config → Option ConfigErro
 refusal_over mappings absent c =
     first_refusal
     ((error.Missing, empty_lists c)
-    ∷ (error.WrongKind, told_if (not (has_types (fields_in mappings) c.query)) (codes "source.query"))
+    ∷ (error.WrongKind, told_if (not (suits_fields (fields_in mappings) c.query)) (codes "source.query"))
     ∷ (error.TooMany, too_long c ++ too_deep c ++ [])
     ∷ (error.BadName, ill_named true c)
     ∷ (error.NoSuchIndex, absent)

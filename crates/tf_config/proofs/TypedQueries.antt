@@ -24,7 +24,7 @@ use Rattle.tf_query.specs.declared.error.QueryError.{QueryError}
 use Rattle.tf_query.specs.declared.error.QueryError.TheVariants as error
 use Rattle.tf_query.specs.Queries.{Part, part_step, part_of, only, match_all_in, term_tree, term_beside, term_in, exists_in, end_of, range_of, range_beside, range_in, leaf_in, query_from, all_queries, clause, bool_of, clauses_from, parts_of}
 use Rattle.tf_query.specs.Reading.{nesting, unmapped_in, if_mapped, if_formed, if_known}
-use Rattle.tf_query.specs.Types.{suits, end_suits, has_types}
+use Rattle.tf_query.specs.Types.{suits, end_suits, suits_fields}
 use Rattle.tf_query.specs.Values.{long_in, moment_in, date_text_in, value_by}
 use Rattle.tf_query.proofs.TypeLaws.{types_all, types_term, types_exists, types_range, types_bool}
 use Rattle.tf_config.specs.Reading.{query_by, kept}
@@ -106,10 +106,10 @@ end_fits type (Some t) (Some u) = tt
 
 module _ (fields : Mapping) where
   abbrev IsTyped : Query → Type 0
-  IsTyped q = has_types fields q ≡ true
+  IsTyped q = suits_fields fields q ≡ true
 
   abbrev AreTyped : List Query → Type 0
-  AreTyped qs = list_all (has_types fields) qs ≡ true
+  AreTyped qs = list_all (suits_fields fields) qs ≡ true
 
   -- ---- queries that hold no other
   term_typed : (m : Option (List ℕ × Tree)) → IfSome (option_and_then (term_beside fields) m) IsTyped
@@ -159,7 +159,7 @@ module _ (fields : Mapping) where
   all_typed [] typed = refl
   all_typed (item ∷ items) typed =
       then_known IsTyped AreTyped (λ q. option_map (λ qs. q ∷ qs) (all_queries items)) item.query typed.0.query
-      (λ q first. mapped AreTyped AreTyped (λ qs. q ∷ qs) (all_queries items) (all_typed items typed.1) (λ qs rest. both (has_types fields q) (list_all (has_types fields) qs) first rest))
+      (λ q first. mapped AreTyped AreTyped (λ qs. q ∷ qs) (all_queries items) (all_typed items typed.1) (λ qs rest. both (suits_fields fields q) (list_all (suits_fields fields) qs) first rest))
 
   query_typed : (members : Members) → AreTypedParts members → IfSome (query_from fields members) IsTyped
   query_typed [] typed = tt
@@ -176,11 +176,11 @@ module _ (fields : Mapping) where
 
   append_typed : (xs ys : List Query) → AreTyped xs → AreTyped ys → AreTyped (xs ++ ys)
   append_typed [] ys a b = b
-  append_typed (x ∷ xs) ys a b = and_more (has_types fields x) (list_all (has_types fields) xs) (list_all (has_types fields) (xs ++ ys)) a (λ rest. append_typed xs ys rest b)
+  append_typed (x ∷ xs) ys a b = and_more (suits_fields fields x) (list_all (suits_fields fields) xs) (list_all (suits_fields fields) (xs ++ ys)) a (λ rest. append_typed xs ys rest b)
 
   bool_typed : (filter must must_not : List Query) → AreTyped filter → AreTyped must → AreTyped must_not → IsTyped (bool_of filter must must_not)
   bool_typed filter must must_not a b c =
-      types_bool fields (filter ++ must) must_not ∙ both (list_all (has_types fields) (filter ++ must)) (list_all (has_types fields) must_not) (append_typed filter must a b) c
+      types_bool fields (filter ++ must) must_not ∙ both (list_all (suits_fields fields) (filter ++ must)) (list_all (suits_fields fields) must_not) (append_typed filter must a b) c
 
   clauses_typed : (members : Members) → AreTypedParts members → IfSome (clauses_from members) IsTyped
   clauses_typed members typed =
@@ -214,7 +214,7 @@ module _ (fields : Mapping) where
       let one = query_typed parts typed in
       record {
         query = one;
-        queries = mapped IsTyped AreTyped (λ q. q ∷ []) (query_from fields parts) one (λ q first. both (has_types fields q) true first refl);
+        queries = mapped IsTyped AreTyped (λ q. q ∷ []) (query_from fields parts) one (λ q first. both (suits_fields fields q) true first refl);
         clauses = clauses_typed parts typed;
       }
   step_typed y = record { query = tt; queries = tt; clauses = tt }
@@ -252,5 +252,5 @@ module _ (fields : Mapping) where
   kept_by (Err refusal) typed = types_all fields
 
   -- the query that is kept of one that was read
-  pub kept_typed : (o : Option Tree) → has_types fields (kept (query_by fields o)) ≡ true
+  pub kept_typed : (o : Option Tree) → suits_fields fields (kept (query_by fields o)) ≡ true
   kept_typed o = kept_by (query_by fields o) (read_typed o)

@@ -25,7 +25,7 @@ use Rattle.tf_model.specs.Rows.{aggs_of}
 use Rattle.tf_model.specs.Values.{type_of}
 use Rattle.tf_mapping.specs.Least.{is_one_of}
 use Rattle.tf_query.specs.Reading.{nesting, fields_in}
-use Rattle.tf_query.specs.Types.{has_types}
+use Rattle.tf_query.specs.Types.{suits_fields}
 use Rattle.tf_config.specs.Catalogue.{Indices, mapping_named, types_in, type_in, fields_of}
 
 -- a text, where something is so
@@ -57,9 +57,9 @@ too_long c = told_if (nat_lt 8 (length c.sources)) (codes "index") ++ too_long_i
 
 -- ---- the query
 
--- a query with a value that has not its field's type
-abbrev pub mistyped : Indices → Config → List (List ℕ)
-mistyped indices c = told_if (not (has_types (fields_of indices c.sources) c.query)) (codes "source.query")
+-- a query with a value that has not its field's type, or a range without an end
+abbrev pub unfit_query : Indices → Config → List (List ℕ)
+unfit_query indices c = told_if (not (suits_fields (fields_of indices c.sources) c.query)) (codes "source.query")
 
 -- queries that nest too deep
 abbrev pub too_deep : Config → List (List ℕ)

@@ -2,11 +2,11 @@
 use Rattle.std.specs.Prelude.{◌≡◌, Bool, []}
 use Rattle.tf_model.specs.declared.config.Config.{Config}
 use Rattle.tf_config.specs.Catalogue.{Indices, mappings_of}
-use Rattle.tf_config.specs.Checks.{empty_lists, mistyped, too_long, too_deep, ill_named, absent_sources, twice_named, unmapped_fields, mixed_fields, undated_fields, unnumbered_fields, bad_intervals, bad_spans, bad_page_size, bad_frequency}
+use Rattle.tf_config.specs.Checks.{empty_lists, unfit_query, too_long, too_deep, ill_named, absent_sources, twice_named, unmapped_fields, mixed_fields, undated_fields, unnumbered_fields, bad_intervals, bad_spans, bad_page_size, bad_frequency}
 
 pub record IsClear (indices : Indices) (need_dest : Bool) (c : Config) : Type 0 where
   pub empty_lists : empty_lists c ≡ []
-  pub mistyped : mistyped indices c ≡ []
+  pub unfit_query : unfit_query indices c ≡ []
   pub too_long : too_long c ≡ []
   pub too_deep : too_deep c ≡ []
   pub ill_named : ill_named need_dest c ≡ []

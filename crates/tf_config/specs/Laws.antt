@@ -22,7 +22,7 @@ use Rattle.tf_mapping.specs.Documents.{AreValues, FitsType}
 use Rattle.tf_mapping.specs.Least.{is_one_of}
 use Rattle.tf_mapping.specs.Mappings.{names}
 use Rattle.tf_config.specs.Catalogue.{Indices, mapping_named, mappings_of, type_in, fields_of}
-use Rattle.tf_config.specs.Checks.{empty_lists, mistyped, named_fields}
+use Rattle.tf_config.specs.Checks.{empty_lists, unfit_query, named_fields}
 use Rattle.tf_config.specs.Drafts.{drafted}
 use Rattle.tf_config.specs.Reading.{query_of, kept, query_faults, faults_of_tree}
 use Rattle.tf_config.specs.Refusals.{first_refusal, passes}
@@ -82,4 +82,4 @@ PassingHasTypes = (indices : Indices) (c : Config) (name : List ℕ) (mapping : 
 -- types of their fields. So these two kinds of refusal are told by the form alone, and in their place in the order.
 abbrev pub FormSuffices : Type 0
 FormSuffices = (indices : Indices) (need_dest : Bool) (t : Tree) → first_refusal (faults_of_tree need_dest t (query_faults (query_of indices t))) ≡ None
-    → (empty_lists (drafted (kept (query_of indices t)) t) ≡ []) × (mistyped indices (drafted (kept (query_of indices t)) t) ≡ [])
+    → (empty_lists (drafted (kept (query_of indices t)) t) ≡ []) × (unfit_query indices (drafted (kept (query_of indices t)) t) ≡ [])

@@ -8,7 +8,7 @@ use Rattle.tf_config.specs.declared.error.ConfigError.{ConfigError}
 use Rattle.tf_config.specs.declared.error.ConfigError.TheVariants as error
 use Rattle.tf_config.specs.declared.query.QueryFaults.{QueryFaults}
 use Rattle.tf_config.specs.Catalogue.{Indices, mappings_of}
-use Rattle.tf_config.specs.Checks.{empty_lists, mistyped, too_long, too_deep, ill_named, absent_sources, twice_named, unmapped_fields, mixed_fields, undated_fields, unnumbered_fields, bad_intervals, bad_spans, bad_page_size, bad_frequency}
+use Rattle.tf_config.specs.Checks.{empty_lists, unfit_query, too_long, too_deep, ill_named, absent_sources, twice_named, unmapped_fields, mixed_fields, undated_fields, unnumbered_fields, bad_intervals, bad_spans, bad_page_size, bad_frequency}
 
 -- a kind of refusal, and all that is at fault so
 abbrev pub Faults : Type 0
@@ -23,7 +23,7 @@ first_refusal (faults ∷ later) = option_or (option_map faults.0 (least_text fa
 abbrev pub faults_of_forms : Indices → QueryFaults → Config → List Faults
 faults_of_forms indices query c =
     (error.Missing, empty_lists c)
-    ∷ (error.WrongKind, mistyped indices c)
+    ∷ (error.WrongKind, unfit_query indices c)
     ∷ (error.TooMany, too_long c ++ too_deep c ++ option_to_list query.too_deep)
     ∷ []
 

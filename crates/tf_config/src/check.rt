@@ -9,7 +9,7 @@ use crate::error::ConfigError;
 use crate::lists::{least_empty, least_too_many};
 use crate::naming::{least_absent, least_ill_named, least_twice_named};
 use crate::numbers::{bad_frequency, bad_page_size, least_bad_interval, least_bad_span};
-use crate::query::{QueryFaults, mistyped};
+use crate::query::{QueryFaults, unfit_query};
 use crate::typing::{least_mixed, least_undated, least_unmapped, least_unnumbered};
 use std::alloc::Global;
 use tf_model::{Config, Text};
@@ -64,7 +64,7 @@ fn check_forms(
         let what = Text::from_str(alloc, what)?;
         return Err(ConfigError::Missing { what });
     }
-    if let Some(what) = mistyped(alloc, config, catalogue)? {
+    if let Some(what) = unfit_query(alloc, config, catalogue)? {
         let what = Text::from_str(alloc, what)?;
         return Err(ConfigError::WrongKind { what });
     }

@@ -30,6 +30,3 @@ pub use laws::{
     passing_is_in_range,
 };
 pub use read::read_config;
-
-#[cfg(test)]
-mod tests;

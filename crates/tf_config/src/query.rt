@@ -13,7 +13,7 @@ use crate::catalogue::Catalogue;
 use crate::least::lesser_if;
 use std::alloc::Global;
 use tf_model::{Config, Mapping, OutOfMemory, Query, Text, Tree};
-use tf_query::{QueryError, has_types, nests_within, read_query};
+use tf_query::{QueryError, suits_fields, nests_within, read_query};
 
 // How deep queries may nest.
 const MOST_NESTING: u32 = 16;
@@ -115,18 +115,18 @@ fn read_tree(
     Ok((Query::MatchAll, faults))
 }
 
-/// `source.query`, where a value of the query has not its field's type.
+/// `source.query`, where a value of the query has not its field's type, or a range has no end.
 #[tactic(auto, using(crate::proofs::LeastLaws::leasts))]
-pub(crate) fn mistyped(
+pub(crate) fn unfit_query(
     alloc: Global,
     config: &Config,
     catalogue: &Catalogue,
 ) -> Result<Option<&'static str>, OutOfMemory>
-    ensures { IfOk result (λ found. option_copied found ≡ least_text (spec.mistyped catalogue.now config.now)) }
+    ensures { IfOk result (λ found. option_copied found ≡ least_text (spec.unfit_query catalogue.now config.now)) }
 {
     let fields = catalogue.fields(alloc, config.sources.as_slice())?;
-    let is_mistyped = !has_types(&config.query, &fields);
-    Ok(lesser_if(is_mistyped, "source.query", None))
+    let is_unfit = !suits_fields(&config.query, &fields);
+    Ok(lesser_if(is_unfit, "source.query", None))
 }
 
 /// The lesser of the least name before and `query`, where queries nest too deep.

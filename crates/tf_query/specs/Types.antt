@@ -1,5 +1,5 @@
--- Whether the values of a query have the types of their fields.
-use Rattle.std.specs.Prelude.{Bool, true, false, ◌&&◌, Option, Some, None}
+-- Whether a query suits fields: its values have the types of their fields, and each range has an end.
+use Rattle.std.specs.Prelude.{Bool, true, false, ◌&&◌, ◌||◌, Option, Some, None, is_some}
 use Rattle.tf_model.specs.declared.value.Value.{Value}
 use Rattle.tf_model.specs.declared.value.Value.TheVariants as value
 use Rattle.tf_model.specs.declared.query.Query.{Query}
@@ -31,14 +31,18 @@ abbrev pub end_suits : Option FieldType → Option Value → Bool
 end_suits type None = true
 end_suits type (Some v) = suits type v
 
--- one level of a query, with the answer of each query inside in its place
-abbrev pub types_step : Mapping → Query-F Bool → Bool
-types_step fields Query-F.MatchAll = true
-types_step fields (Query-F.Term field v) = suits (type_of fields field) v
-types_step fields (Query-F.Exists field) = true
-types_step fields (Query-F.Range field low low_open high high_open) = end_suits (type_of fields field) low && end_suits (type_of fields field) high
-types_step fields (Query-F.Bool filter must_not) = all_true filter && all_true must_not
+-- whether a range has an end
+abbrev pub has_end : Option Value → Option Value → Bool
+has_end low high = is_some low || is_some high
 
--- whether each value of a query is of its field's type
-unfoldable pub has_types : Mapping → Query → Bool
-has_types fields = fold-Query Bool (types_step fields)
+-- one level of a query, with the answer of each query inside in its place
+abbrev pub suits_step : Mapping → Query-F Bool → Bool
+suits_step fields Query-F.MatchAll = true
+suits_step fields (Query-F.Term field v) = suits (type_of fields field) v
+suits_step fields (Query-F.Exists field) = true
+suits_step fields (Query-F.Range field low low_open high high_open) = has_end low high && end_suits (type_of fields field) low && end_suits (type_of fields field) high
+suits_step fields (Query-F.Bool filter must_not) = all_true filter && all_true must_not
+
+-- whether each value of a query is of its field's type, and each range has an end
+unfoldable pub suits_fields : Mapping → Query → Bool
+suits_fields fields = fold-Query Bool (suits_step fields)

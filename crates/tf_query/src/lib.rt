@@ -19,4 +19,4 @@ pub use error::QueryError;
 pub use matching::matches;
 pub use nesting::nests_within;
 pub use reading::read_query;
-pub use typing::has_types;
+pub use typing::suits_fields;

@@ -1,4 +1,4 @@
-// Whether the values of a query have the types of their fields.
+// Whether a query suits fields: its values have the types of their fields, and each range has an end.
 ghost use Rattle.std.specs.Prelude.{◌≡◌};
 ghost use Rattle.std.specs.List.{list_all};
 ghost use Rattle.std.specs.Option.{option_copied};
@@ -7,12 +7,12 @@ ghost use Rattle.tf_query.specs.Types as spec;
 use crate::values::{fits_i64, is_date};
 use tf_model::{FieldType, Mapping, Query, Value};
 
-/// Whether each value of a query is of the type that `fields` gives its field: a text, a number in `i64`, a truth value
-/// or a date in range. A field that is not mapped takes any value. Takes no memory.
+/// Whether each value of a query is of the type that `fields` gives its field, and each range has an end. A value is a
+/// text, a number in `i64`, a truth value or a date in range. A field that is not mapped takes any value. Takes no memory.
 #[cycle(typing)]
 #[tactic(auto, using(crate::proofs::TypeLaws::types))]
-pub fn has_types(query: &Query, fields: &Mapping) -> bool
-    ensures { result ≡ spec.has_types fields.now query.now }
+pub fn suits_fields(query: &Query, fields: &Mapping) -> bool
+    ensures { result ≡ spec.suits_fields fields.now query.now }
 {
     match query {
         Query::MatchAll | Query::Exists { .. } => true,
@@ -24,26 +24,32 @@ pub fn has_types(query: &Query, fields: &Mapping) -> bool
             ..
         } => {
             let kind = fields.type_of(field);
-            end_suits(kind, low.as_ref()) && end_suits(kind, high.as_ref())
+            has_end(low, high) && end_suits(kind, low.as_ref()) && end_suits(kind, high.as_ref())
         }
-        Query::Bool { filter, must_not } => all_have_types(filter.as_slice(), fields)
-            && all_have_types(must_not.as_slice(), fields),
+        Query::Bool { filter, must_not } => all_suit_fields(filter.as_slice(), fields)
+            && all_suit_fields(must_not.as_slice(), fields),
     }
 }
 
 #[cycle(typing)]
-fn all_have_types(queries: &[Query], fields: &Mapping) -> bool
-    ensures { result ≡ list_all (spec.has_types fields.now) queries.now }
+fn all_suit_fields(queries: &[Query], fields: &Mapping) -> bool
+    ensures { result ≡ list_all (spec.suits_fields fields.now) queries.now }
 {
     for query in queries {
-        if !has_types(query, fields) {
+        if !suits_fields(query, fields) {
             return false;
         }
     }
     true
 }
 
-// The same of an end of a range, where it is given.
+fn has_end(low: &Option<Value>, high: &Option<Value>) -> bool
+    ensures { result ≡ spec.has_end low.now high.now }
+{
+    low.is_some() || high.is_some()
+}
+
+// Whether an end of a range is of a field's type, where it is given.
 fn end_suits(kind: Option<FieldType>, end: Option<&Value>) -> bool
     ensures { result ≡ spec.end_suits kind (option_copied end.entry) }
 {
