@@ -44,12 +44,9 @@ use Rattle.tf_core.proofs.BuiltPast.{all_weaken}
 use Rattle.tf_core.proofs.FirstCheckpoint.{failing_is, failure_is, key_of, left_is}
 use Rattle.tf_core.proofs.Fitting.{form_of, put_in_range, reads_fit, reads_have}
 use Rattle.tf_core.proofs.LastMoment.{last_is_newest}
-use Rattle.tf_core.proofs.Truths.{both, no_items}
+use Rattle.tf_core.proofs.Truths.{both, no_items, same_int}
 use Rattle.tf_core.specs.Held.{last_ms_of}
 use Rattle.tf_core.specs.Moves.{last_ms_in}
-
-same_int : (a b : ℤ) → int_eq a b ≡ true → a ≡ b
-same_int a b e = grind (arith, ints)
 
 int_same : (a b : ℤ) → a ≡ b → int_eq a b ≡ true
 int_same a b e = grind (arith, ints)

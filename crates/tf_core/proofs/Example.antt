@@ -1,18 +1,24 @@
--- The entries of the small history are taken.
-use Rattle.std.proofs.Common.{◌≡◌, ℕ, ◌%◌, ◌&&◌, List, arith, refl, sym, ap, subst, [], ◌∷◌, None, Some, true}
+-- A small history: an index and two documents, which are taken.
+use Rattle.std.proofs.Common.{◌≡◌, ℕ, ◌%◌, ◌&&◌, List, arith, refl, sym, ap, subst, [], ◌∷◌, None, Some, true, false}
 use Rattle.std.specs.Prelude.{ℤ, pos, codes, is_some}
 use Rattle.std.proofs.lemmas.Int.{ints}
 use Rattle.tf_model.specs.Names.{is_index_name}
 use Rattle.tf_model.specs.Trees.{members_in, members_level}
 use Rattle.tf_model.specs.declared.tree.Tree.TheVariants as tree
 use Rattle.tf_model.specs.declared.entry.Entry.{Entry}
-use Rattle.tf_core.specs.Example.{example, example_index, example_write}
+use Rattle.tf_model.specs.declared.entry.Kind.TheVariants as kind
 use Rattle.tf_core.specs.Legal.{AreTaken, IsTaken, reading}
 use Rattle.tf_mapping.specs.Documents as Documents
 use Rattle.tf_mapping.specs.Documents.{reads}
 use Rattle.tf_mapping.specs.Routes.{hash_of, shard_of}
 use Rattle.tf_mapping.specs.Written.{is_written}
 use Rattle.std.specs.List.Sorted.{IsStrictlySortedBy}
+
+abbrev example_index : Entry
+example_index = record { at_ms = pos 5; actor = 1; kind = kind.Index (codes "a") 1 (record { fields = [] }) None false }
+
+abbrev example_write : ℕ → List ℕ → Entry
+example_write seq id = record { at_ms = pos 7; actor = 2; kind = kind.Write 0 0 seq id (tree.Obj []) }
 
 index_taken : IsTaken [] example_index
 unfolding reading is_index_name IsStrictlySortedBy
@@ -78,7 +84,7 @@ second_taken = record {
   built = refl;
 }
 
-pub example_taken : AreTaken [] example
+example_taken : AreTaken [] (example_index ∷ example_write 0 (codes "1") ∷ example_write 1 (codes "2") ∷ [])
 example_taken = (index_taken, (first_taken, (second_taken, tt)))
 
 -- one entry that is taken

@@ -29,8 +29,7 @@ use Rattle.tf_core.specs.BuiltPast.{IsBuiltDoc, IsBuiltIndex, IsBuiltPast, IsBui
 use Rattle.tf_core.specs.Sources.{catalogued, is_among}
 use Rattle.tf_core.specs.Texts.{HasTexts, HasValues, IsValueOf}
 use Rattle.tf_core.proofs.Numbers.{position_cons}
-use Rattle.tf_core.proofs.Sums.{all_filter}
-use Rattle.tf_core.proofs.Tables.{same_itself}
+use Rattle.tf_core.proofs.Tables.{all_filter, same_itself}
 use Rattle.tf_core.proofs.Truths.{both, int_at_most, none_of, same_nat}
 
 pub all_take : (P : Doc → Type 0) (n : ℕ) (docs : List Doc) → AllByRecursion P docs → AllByRecursion P (take n docs)

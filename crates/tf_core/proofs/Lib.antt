@@ -28,6 +28,9 @@ pub mod AllowedTransforms
 pub mod AllowedRows
 pub mod Sums
 pub mod Fitting
+pub mod InRange
+pub mod DatesRead
+pub mod HistoryLaws
 pub mod FirstCheckpoint
 pub mod AllowedKinds
 pub mod Used

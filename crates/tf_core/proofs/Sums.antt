@@ -48,13 +48,6 @@ total_within field (d ∷ docs) all = by (value_of d field) (λ v is. all.0 v is
     by None here rest = wider (total (field_values field docs)) (length docs) rest
     by (Some v) here rest = more (number_in v) (total (field_values field docs)) (length docs) (here v refl) rest
 
-pub all_filter : (P : Doc → Type 0) (p : Doc → Bool) (docs : List Doc) → AllByRecursion P docs → AllByRecursion P (filter p docs)
-all_filter P p [] all = tt
-all_filter P p (d ∷ docs) all = elim (p d) as (λ b. AllByRecursion P (if b then d ∷ filter p docs else filter p docs)) [
-  | true ↦ (all.0, all_filter P p docs all.1)
-  | false ↦ all_filter P p docs all.1
-]
-
 pub few_filter : (p : Doc → Bool) (docs : List Doc) → length (filter p docs) ≤ length docs
 few_filter p [] = omega arith
 few_filter p (d ∷ docs) = elim (p d) as (λ b. length (if b then d ∷ filter p docs else filter p docs) ≤ length (d ∷ docs)) [

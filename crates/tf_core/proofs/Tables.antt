@@ -106,6 +106,6 @@ at_remove other id (t ∷ ts) =
         let w : false ≡ true = sym e ∙ z in
         cc
 
-pub all_filter : (P : Transform → Type 0) (p : Transform → Bool) (ts : List Transform) → AllByRecursion P ts → AllByRecursion P (filter p ts)
+pub all_filter : {X : Type 0} (P : X → Type 0) (p : X → Bool) (xs : List X) → AllByRecursion P xs → AllByRecursion P (filter p xs)
 all_filter P p [] h = tt
-all_filter P p (t ∷ ts) h = elim (p t) as (λ b. AllByRecursion P (cond b (t ∷ filter p ts) (filter p ts))) [ true ↦ (h.0, all_filter P p ts h.1) | false ↦ all_filter P p ts h.1 ]
+all_filter P p (x ∷ xs) h = elim (p x) as (λ b. AllByRecursion P (cond b (x ∷ filter p xs) (filter p xs))) [ true ↦ (h.0, all_filter P p xs h.1) | false ↦ all_filter P p xs h.1 ]

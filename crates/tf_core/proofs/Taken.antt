@@ -15,7 +15,7 @@ use Rattle.tf_core.specs.Legal.{IsTaken, IsTakenPast, read, reading}
 use Rattle.tf_mapping.specs.Documents.{values_of}
 use Rattle.tf_core.proofs.Truths.{both, none_of}
 
-legal_past : (past : List Entry) → IsTakenPast past → IsLegalPast reading past
+pub legal_past : (past : List Entry) → IsTakenPast past → IsLegalPast reading past
 legal_past [] h = tt
 legal_past (e ∷ past) h = (legal_past past h.0, h.1.legal)
 

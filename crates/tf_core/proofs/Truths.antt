@@ -1,6 +1,7 @@
 -- What a test that holds says.
 use Rattle.std.proofs.Common.{◌≡◌, ℕ, ◌≤◌, Bool, true, false, ◌&&◌, not, List, [], ◌∷◌, Option, Some, None, refl, ap, arith}
 use Rattle.std.specs.Prelude.{ℤ, ◌||◌, ◌≤ℤ◌, int_le, nat_le, nat_eq, is_none}
+use Rattle.std.specs.Ordering.{int_eq}
 use Rattle.std.proofs.lemmas.Int.{ints}
 use Rattle.tf_core.specs.Allowing.{is_empty}
 
@@ -17,6 +18,9 @@ int_at_most a b e = grind (arith, ints)
 
 pub at_most_int : (a b : ℤ) → a ≤ℤ b → int_le a b ≡ true
 at_most_int a b e = grind (arith, ints)
+
+pub same_int : (a b : ℤ) → int_eq a b ≡ true → a ≡ b
+same_int a b e = grind (arith, ints)
 
 pub nat_at_most : (a b : ℕ) → nat_le a b ≡ true → a ≤ b
 nat_at_most a b e = grind arith

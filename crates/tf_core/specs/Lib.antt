@@ -1,6 +1,7 @@
 pub mod Built
 pub mod Sources
 pub mod Legal
+pub mod Laws
 pub mod BuiltPast
 pub mod Allowing
 pub mod Places
@@ -19,6 +20,5 @@ pub mod Made
 pub mod Preparing
 pub mod Moves
 pub mod Lookups
-pub mod Example
 pub mod Texts
 pub mod Listing

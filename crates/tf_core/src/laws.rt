@@ -1,0 +1,21 @@
+// The laws of late documents and of aligned keys, over histories as indices really read their documents.
+ghost use Rattle.tf_core.specs.Laws.{TakenEntriesAreLegal, StampedDocumentsAreNeverLate, AlignedKeysAreApart};
+
+/// Entries that were taken one after the other are legal, so the laws of legal entries hold of every core's history.
+#[tactic(auto, using(crate::proofs::Taken::legal_past))]
+pub fn taken_entries_are_legal()
+    ensures { TakenEntriesAreLegal }
+{}
+
+/// Where every source of a transform has its sync field as stamp, no document is late.
+#[tactic(auto, using(crate::proofs::HistoryLaws::stamped_documents_are_never_late))]
+pub fn stamped_documents_are_never_late()
+    ensures { StampedDocumentsAreNeverLate }
+{}
+
+/// Where bounds are aligned to a date_histogram over the sync field, no key is changed in two checkpoints of a life: each
+/// is written by the Pages of one checkpoint alone.
+#[tactic(auto, using(crate::proofs::HistoryLaws::aligned_keys_are_apart))]
+pub fn aligned_keys_are_apart()
+    ensures { AlignedKeysAreApart }
+{}
