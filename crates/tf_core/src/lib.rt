@@ -13,8 +13,8 @@ mod counts;
 mod ids;
 mod index;
 mod kept;
-mod laws;
 mod late;
+mod laws;
 mod listing;
 mod lookups;
 mod making;
@@ -39,9 +39,7 @@ mod writing;
 
 pub use built::is_built_config;
 pub use index::Index;
-pub use laws::{
-    aligned_keys_are_apart, stamped_documents_are_never_late, taken_entries_are_legal,
-};
+pub use laws::{aligned_keys_are_apart, stamped_documents_are_never_late, taken_entries_are_legal};
 pub use ready::Ready;
 pub use state::Core;
 pub use transform::Transform;
