@@ -4,7 +4,7 @@ ghost use Rattle.std.specs.Io.{ReadsAtMost};
 ghost use Rattle.tf_model.specs.Causes.{HasCause, Rose};
 ghost use Rattle.tf_disk.specs.Disk.{Torn, Cut, Kept, Writes, Cuts, Reads, IsLength, IsDurable, Makes, IsUntouched};
 ghost use Rattle.tf_disk.specs.InMemory.{in_memory, contents, IsImage, image_from, counted, is_listed, IsCall, Adds};
-ghost use Rattle.tf_disk.specs.declared.change.Change.TheVariants.{Write, Trim};
+ghost use Rattle.tf_disk.specs.declared.change.Change.TheVariants.{Write, Trim, Sync};
 ghost use Rattle.tf_disk.specs.MemoryLaws.{read_is_image, image_was, was_image_now};
 
 use crate::change::{Change, apply, image_after, write_change};
@@ -179,6 +179,7 @@ impl Disk for MemDisk {
         ensures same { IsUntouched in_memory self.old self.new }
         ensures cause { HasCause self.old.faults self.new.faults result }
         ensures call { IsCall self.old self.new (is_err result) }
+        ensures file { (self.new.first ≡ self.old.first) × (self.new.changes ≡ self.old.changes) }
     {
         self.begin()?;
         Ok(self.bytes.len() as u64)
@@ -190,6 +191,7 @@ impl Disk for MemDisk {
         ensures same { IsUntouched in_memory self.old self.new }
         ensures cause { HasCause self.old.faults self.new.faults result }
         ensures call { IsCall self.old self.new (is_err result) }
+        ensures file { (self.new.first ≡ self.old.first) × (self.new.changes ≡ self.old.changes) }
     {
         self.begin()?;
         Ok(copy_from(&self.bytes, place as usize, buf))
@@ -236,6 +238,9 @@ impl Disk for MemDisk {
         ensures model { Makes in_memory Kept self.old self.new }
         ensures cause { HasCause self.old.faults self.new.faults result }
         ensures call { IsCall self.old self.new (is_err result) }
+        ensures change { OnOk result (self.new.changes ≡ self.old.changes ++ Sync ∷ []) }
+        ensures no_change { OnErr result (self.new.changes ≡ self.old.changes) }
+        ensures first { self.new.first ≡ self.old.first }
     {
         self.begin()?;
         match self.make(Change::Sync) {
