@@ -1,8 +1,7 @@
 -- How a run of disk calls goes on.
 use Rattle.std.proofs.Common.{◌≡◌, inl, inr, ⊎_elim, ℕ, ◌≤◌, List, [], take, refl, sym, ◌∙◌, ap, subst, arith, Some, None, Option, is_some}
 use Rattle.tf_disk.specs.Disk.{Meaning, Tells, Makes, Kept, IsDurable, IsUntouched, Writes, Cuts, written}
-use Rattle.tf_journal.specs.Frames.{Reading, reading}
-use Rattle.tf_journal.specs.Crashes.{LeavesOnly, LeavesNothingNew, IsOpened, StepsFrom}
+use Rattle.tf_journal.specs.Crashes.{LeavesOnly, LeavesNothingNew, StepsFrom}
 
 -- what a disk tells is some list
 pub some_bytes : (told : Option (List ℕ)) → (bytes : List ℕ) × Tells told bytes
@@ -32,29 +31,41 @@ module _ {D : Type 0} (m : Meaning D) where
 
   -- before the first call
   pub started : OnlyNow → (old : D) (P : List ℕ → Type 0) → ((image : List ℕ) → m.may_leave old image → P image) → LeavesOnly m old old P
-  started only_now old P here = record { later = omega arith; each = λ image left. here image (only_now old image left); before = λ t image le left. inl left }
+  started only_now old P here = record {
+    tells = refl;
+    later = omega arith;
+    each = λ image left. here image (only_now old image left);
+    before = λ t image le left. inl left;
+    keeps = λ t image le left. left;
+  }
 
   -- one call more, after which a crash leaves what has P
   pub goes_on : (old mid new : D) (P : List ℕ → Type 0) (step : List ℕ → List ℕ → Type 0) → LeavesOnly m old mid P → Makes m step mid new → ((image : List ℕ) → m.may_leave new image → P image) → LeavesOnly m old new P
   goes_on old mid new P step so_far makes here = record {
+    tells = makes.tells ∙ so_far.tells;
     later = omega (arith, so_far.later, makes.later);
     each = λ image left. ⊎_elim (so_far.each image) (here image) (makes.nothing_else (m.moment old) image so_far.later left);
     before = λ t image le left. ⊎_elim (so_far.before t image le) (λ now. inr (here image now)) (makes.nothing_else t image (omega (arith, le, so_far.later)) left);
+    keeps = λ t image le left. makes.keeps t image (omega (arith, le, so_far.later)) (so_far.keeps t image le left);
   }
 
   -- one run after another
   pub then_leaves : (old mid new : D) (P Q : List ℕ → Type 0) → LeavesOnly m old mid P → LeavesOnly m mid new Q → ((image : List ℕ) → Q image → P image) → LeavesOnly m old new P
   then_leaves old mid new P Q first second wider = record {
+    tells = second.tells ∙ first.tells;
     later = omega (arith, first.later, second.later);
     each = λ image left. ⊎_elim (first.each image) (wider image) (second.before (m.moment old) image first.later left);
     before = λ t image le left. ⊎_elim (first.before t image le) (λ now. inr (wider image now)) (second.before t image (omega (arith, le, first.later)) left);
+    keeps = λ t image le left. second.keeps t image (omega (arith, le, first.later)) (first.keeps t image le left);
   }
 
   pub leaves_wider : (old new : D) (P Q : List ℕ → Type 0) → LeavesOnly m old new P → ((image : List ℕ) → P image → Q image) → LeavesOnly m old new Q
   leaves_wider old new P Q run wider = record {
+    tells = run.tells;
     later = run.later;
     each = λ image left. wider image (run.each image left);
     before = λ t image le left. ⊎_elim (λ was. inl was) (λ now. inr (wider image now)) (run.before t image le left);
+    keeps = run.keeps;
   }
 
   -- so it does now
@@ -79,19 +90,15 @@ module _ {D : Type 0} (m : Meaning D) where
   pub untouched_durable : (old new : D) → IsUntouched m old new → IsDurable m old → IsDurable m new
   untouched_durable old new same durable image is = same.seen ∙ durable image ((same.images image).0 is)
 
-  -- what has been opened: a sync, a reading, and then a run that leaves only what is read so
-  pub opens : CountsNow → (old synced looked new : D) (read : Reading) → Makes m Kept old synced → IsUntouched m synced looked → LeavesOnly m looked new (λ image. reading image ≡ read) → IsOpened m old (m.moment synced) new read
-  opens counts_now old synced looked new read makes same run = record {
-    from = makes.later;
-    to = omega (arith, same.moment, run.later);
-    since = λ image left. run.each image (subst (λ (t : ℕ). m.left_since new t image) (sym same.moment) left);
-    before = λ s image le left.
-        ⊎_elim (λ was. inl (⊎_elim (λ before. before) (λ now. old_image s image le now) (makes.nothing_else s image le ((same.since s image).0 was)))) (λ now. inr now)
-        (run.before s image (omega (arith, le, makes.later, same.moment)) left);
+  -- a run after a reading
+  pub looked_then : (old looked new : D) (P : List ℕ → Type 0) → IsUntouched m old looked → LeavesOnly m looked new P → LeavesOnly m old new P
+  looked_then old looked new P same run = record {
+    tells = run.tells ∙ ap is_some same.seen;
+    later = omega (arith, same.moment, run.later);
+    each = λ image left. run.each image (subst (λ (t : ℕ). m.left_since new t image) (sym same.moment) left);
+    before = λ t image le left. ⊎_elim (λ was. inl ((same.since t image).0 was)) (λ now. inr now) (run.before t image (omega (arith, le, same.moment)) left);
+    keeps = λ t image le left. run.keeps t image (omega (arith, le, same.moment)) ((same.since t image).1 left);
   }
-    where
-      old_image : (s : ℕ) (image : List ℕ) → s ≤ m.moment old → m.may_leave synced image → m.left_since old s image
-      old_image s image le now = let was = makes.images image now in counts_now old s image le (subst (m.may_leave old) (sym was.2) was.1)
 
   pub synced_only : CountsNow → (old synced : D) → Makes m Kept old synced → LeavesNothingNew m old synced
   synced_only counts_now old synced makes = record {

@@ -1,5 +1,5 @@
 // Appending to a journal.
-ghost use Rattle.std.specs.Prelude.{◌≡◌, ◌<◌, ◌≤◌, ◌+◌, [], ◌∷◌, ◌++◌, List, ℕ, None, length, IfOk, IfErr, OnOk};
+ghost use Rattle.std.specs.Prelude.{◌≡◌, ◌<◌, ◌≤◌, ◌+◌, [], ◌∷◌, ◌++◌, List, ℕ, None, is_some, length, IfOk, IfErr, OnOk};
 ghost use Rattle.tf_model.specs.Causes.{HasCause};
 ghost use Rattle.tf_disk.specs.Disk.{Tells, IsUntouched};
 ghost use Rattle.tf_journal.specs.Frames.{IsBody, reading, whole};
@@ -39,11 +39,12 @@ impl<D: Disk> Journal<D> {
         ensures any_moment { (frames : List (List ℕ)) → StandsFor D.meaning frames self.old → LeavesOnly D.meaning (disk_of self.old) (disk_of self.new) (IsBeforeOrAfter frames frame.now) }
 
         // What is known of a journal is known after each call.
-        ensures known { (t : ℕ) (first : List (List ℕ)) (frames : List (List ℕ)) (failed : List ℕ) → IsKnown D.meaning t first frames failed self.old
-            → IsKnownAfter D.meaning t first frames failed frame.now self.new result }
+        ensures known { (synced : D) (first : List (List ℕ)) (frames : List (List ℕ)) (failed : List ℕ) → IsKnown D.meaning synced first frames failed self.old
+            → IsKnownAfter D.meaning synced first frames failed frame.now self.new result }
 
         ensures opened { opened_at self.new ≡ opened_at self.old }
         ensures later { D.meaning.faults (disk_of self.old) ≤ D.meaning.faults (disk_of self.new) }
+        ensures tells { is_some (D.meaning.seen (disk_of self.new)) ≡ is_some (D.meaning.seen (disk_of self.old)) }
     {
         if let Some(count) = self.broken {
             return Err(JournalError::Broken { count });
@@ -85,6 +86,7 @@ fn write_frame<D: Disk>(disk: &mut D, end: u64, frame: &Frame) -> Result<(), Fai
     ensures ends { (frames : List (List ℕ)) → EndsAt D.meaning frames end disk.old → 0 < length frame.now → OnOk result (EndsAt D.meaning (frames ++ frame.now ∷ []) (end + (length frame.now + 9)) disk.new) }
     ensures any_moment { (frames : List (List ℕ)) → EndsAt D.meaning frames end disk.old → 0 < length frame.now → LeavesOnly D.meaning disk.old disk.new (IsBeforeOrAfter frames frame.now) }
     ensures cause { HasCause (D.meaning.faults disk.old) (D.meaning.faults disk.new) result }
+    ensures tells { is_some (D.meaning.seen disk.new) ≡ is_some (D.meaning.seen disk.old) }
 {
     let bytes = frame.spelling();
     write_through(disk, end, bytes)?;

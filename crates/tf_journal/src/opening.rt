@@ -1,5 +1,5 @@
 // Opening a file of frames.
-ghost use Rattle.std.specs.Prelude.{◌≡◌, ◌≤◌, ◌+◌, ◌<◌, List, ℕ, None, length, get_or, IfOk, IfErr, OnOk};
+ghost use Rattle.std.specs.Prelude.{◌≡◌, ◌≤◌, ◌+◌, ◌<◌, List, ℕ, None, is_some, length, get_or, IfOk, IfErr, OnOk};
 ghost use Rattle.tf_disk.specs.Disk.{Kept, Makes, Tells, IsDurable, IsUntouched};
 ghost use Rattle.tf_journal.specs.Frames.{reading, whole, opened};
 ghost use Rattle.tf_journal.specs.Answers.{IsReadRefusal, IsOpenRefusal, IsReadOnlyRefusal};
@@ -17,12 +17,12 @@ use std::snapshot::Snapshot;
 use tf_disk::Disk;
 use tf_model::{Failed, List};
 
-// What an opening found: the frames, the file's length after it, and the moment of its first sync.
+// What an opening found: the frames, the file's length after it, and the disk just after its first sync.
 #[derive(Drop)]
-struct Opening {
+struct Opening<D> {
     frames: List<Frame>,
     len: u64,
-    at: Snapshot<u64>,
+    at: Snapshot<D>,
 }
 
 // What stands in a file: the frames, its length, and where its last gate ends.
@@ -49,6 +49,8 @@ impl<D: Disk> Journal<D> {
         ensures refused { IfErr result (λ e. IsOpenRefusal D.meaning disk e.1 e.0) }
         ensures later { IfOk result (λ r. D.meaning.faults disk ≤ D.meaning.faults (disk_of r.0)) }
         ensures later_refused { IfErr result (λ e. D.meaning.faults disk ≤ D.meaning.faults e.1) }
+        ensures tells { IfOk result (λ r. is_some (D.meaning.seen (disk_of r.0)) ≡ is_some (D.meaning.seen disk)) }
+        ensures tells_refused { IfErr result (λ e. is_some (D.meaning.seen e.1) ≡ is_some (D.meaning.seen disk)) }
     {
         let mut disk = disk;
         match open_file(alloc, &mut disk) {
@@ -97,16 +99,17 @@ fn read_content<D: Disk>(alloc: Global, disk: &mut D) -> Result<Content, Journal
 }
 
 // Syncs a file, reads it and repairs its end.
-fn open_file<D: Disk>(alloc: Global, disk: &mut D) -> Result<Opening, JournalError>
+fn open_file<D: Disk>(alloc: Global, disk: &mut D) -> Result<Opening<D>, JournalError>
     ensures found { IfOk result (λ o. IsFound D.meaning disk.old disk.new o.frames o.len o.at.value) }
     ensures refused { IfErr result (IsOpenRefusal D.meaning disk.old disk.new) }
     ensures later { D.meaning.faults disk.old ≤ D.meaning.faults disk.new }
+    ensures tells { is_some (D.meaning.seen disk.new) ≡ is_some (D.meaning.seen disk.old) }
 {
     match disk.sync() {
         Ok(()) => {}
         Err(Failed) => return Err(fault(disk)),
     }
-    let at = disk.moment();
+    let at = Snapshot::of(&*disk);
     let Content { frames, len, end } = match read_content(alloc, disk) {
         Ok(content) => content,
         Err(error) => return Err(error),

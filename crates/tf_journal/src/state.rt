@@ -12,7 +12,7 @@ pub struct Journal<D> {
     pub(crate) len: u64,
     // the disk's count of faults, where a call failed
     pub(crate) broken: Option<u64>,
-    // the moment of the first sync of the opening
-    pub(crate) opened: Snapshot<u64>,
+    // the disk just after the first sync of the opening, which only clauses read
+    pub(crate) opened: Snapshot<D>,
     ghost has_gate: { 1 ≤ len },
 }
