@@ -4,7 +4,6 @@ ghost use Rattle.std.specs.Io.{ReadsAtMost};
 ghost use Rattle.tf_model.specs.Causes.{HasCause};
 ghost use Rattle.tf_disk.specs.Disk.{Meaning, IsLength, Torn, Cut, Kept, Writes, Cuts, Reads, IsDurable, Makes, IsUntouched};
 
-use std::snapshot::Snapshot;
 use tf_model::Failed;
 
 /// A disk that holds one file, with a count of its faults.
@@ -18,10 +17,6 @@ pub trait Disk {
     /// How often a call has failed. The count never falls, and stays at the largest u64.
     fn faults(&self) -> u64
         ensures { result ≡ meaning.faults self.now };
-
-    /// This moment, which only clauses read: it has no byte at run time.
-    fn moment(&self) -> Snapshot<u64>
-        ensures { result.value ≡ meaning.moment self.now };
 
     /// The file's length in bytes.
     fn len(&mut self) -> Result<u64, Failed>

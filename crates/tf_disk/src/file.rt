@@ -10,7 +10,6 @@ use std::alloc::Global;
 use std::fs::{File, OpenOptions};
 use std::io;
 use std::os::unix::fs::FileExt;
-use std::snapshot::Snapshot;
 use tf_model::{Failed, OutOfMemory};
 
 /// A disk over the file at a path, which is opened, or made, at the first call. A call that cannot reach the
@@ -84,10 +83,6 @@ impl Disk for FileDisk {
 
     fn faults(&self) -> u64 {
         self.faults
-    }
-
-    fn moment(&self) -> Snapshot<u64> {
-        Snapshot::of(&0)
     }
 
     fn len(&mut self) -> Result<u64, Failed> {

@@ -11,7 +11,6 @@ use crate::change::{Change, apply, image_after, write_change};
 use crate::device::Disk;
 use std::alloc::Global;
 use std::marker::Model;
-use std::snapshot::Snapshot;
 use tf_model::{Failed, OutOfMemory};
 
 /// A disk in memory, for tests. Its calls are counted from 1, and those in its list fail.
@@ -167,11 +166,6 @@ impl Disk for MemDisk {
 
     fn faults(&self) -> u64 {
         self.faults
-    }
-
-    fn moment(&self) -> Snapshot<u64> {
-        let moment = self.changes.len() as u64;
-        Snapshot::of(&moment)
     }
 
     fn len(&mut self) -> Result<u64, Failed>
