@@ -12,6 +12,7 @@ use Rattle.tf_journal.specs.Frames.{magic, block, opened}
 use Rattle.tf_journal.specs.Crashes as frames
 use Rattle.tf_journal.specs.Standing as journal
 use Rattle.tf_journal.specs.declared.state.Journal.{Journal}
+use Rattle.tf_journal.proofs.Moments.{leaves_wider}
 use Rattle.tf_core.specs.Legal.{AreTakenAfter}
 use Rattle.tf_store.specs.Histories.{Spells}
 use Rattle.tf_store.specs.Crashes.{IsBeforeOrAfter, Keeps}
@@ -19,7 +20,7 @@ use Rattle.tf_store.specs.Standing.{StandsFor, KnownAt, IsKnown}
 use Rattle.tf_store.specs.Answers.{frame_size}
 use Rattle.tf_store.proofs.Taken.{history_taken}
 use Rattle.tf_store.proofs.Contents.{leads_more, spelled_more}
-use Rattle.tf_store.proofs.Crashing.{before_or_after, stands_for, leaves_wider, keeps_more}
+use Rattle.tf_store.proofs.Crashing.{before_or_after, stands_for, keeps_more}
 
 -- a frame more
 length-size : (size : ℕ) → length (size_bytes size) ≡ 8
@@ -43,7 +44,7 @@ module _ {D : Type 0} (m : Meaning D) (held es : List Entry) (body : List ℕ) (
   -- a crash leaves the history with the entries or without them
   pub leaves_history : LeavesFrames → StandsFor m held (journal.file_len old) (journal.disk_of old) → frames.LeavesOnly m (journal.disk_of old) (journal.disk_of new) (IsBeforeOrAfter held es)
   leaves_history leaves stands =
-      leaves_wider m (journal.disk_of old) (journal.disk_of new) (frames.IsBeforeOrAfter stands.frames body) (IsBeforeOrAfter held es) (before_or_after stands.frames body held es stands.holds spells taken) (leaves stands.frames (unbroken, stands.file))
+      leaves_wider m (journal.disk_of old) (journal.disk_of new) (frames.IsBeforeOrAfter stands.frames body) (IsBeforeOrAfter held es) (leaves stands.frames (unbroken, stands.file)) (before_or_after stands.frames body held es stands.holds spells taken)
 
   -- the file has the history with the entries
   pub stands_more : AddsFrame → StandsFor m held (journal.file_len old) (journal.disk_of old) → StandsFor m (held ++ es) (journal.file_len new) (journal.disk_of new)
@@ -65,7 +66,7 @@ module _ {D : Type 0} (m : Meaning D) (held es : List Entry) (body : List ℕ) (
     before = subst (λ (b : Option ℕ). KnownAt b m (journal.opened_at old) (take found held) held failed (journal.file_len old) (journal.disk_of old)) unbroken known.crashes
 
     kept : Keeps m (journal.opened_at new) (take found held) (held ++ es) (journal.disk_of new)
-    kept = subst (λ (t : ℕ). Keeps m t (take found held) (held ++ es) (journal.disk_of new)) (sym opened) (keeps_more m (journal.opened_at old) (take found held) held es (journal.disk_of old) (journal.disk_of new) before.1 (leaves_history leaves before.0))
+    kept = subst (λ (synced : D). Keeps m synced (take found held) (held ++ es) (journal.disk_of new)) (sym opened) (keeps_more m (journal.opened_at old) (take found held) held es (journal.disk_of old) (journal.disk_of new) before.1 (leaves_history leaves before.0))
 
     -- after a commit that answered `Ok`
     pub known_longer : journal.broken_at new ≡ journal.broken_at old → AddsFrame → IsKnown m found (held ++ es) failed new

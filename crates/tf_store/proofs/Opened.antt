@@ -20,15 +20,15 @@ use Rattle.tf_store.proofs.Contents.{has_what, holds_spelled, holds_taken}
 use Rattle.tf_store.proofs.Crashing.{stands_for, opened_same, keeps_opened}
 
 module _ {D : Type 0} (m : Meaning D) (old : D) where
-  module _ (new : D) (bodies : List (List ℕ)) (len t : ℕ) (is : journal.IsFound m old new bodies len t) where
-    abbrev opened_to : IsOpened m old t new is.bytes
-    opened_to = opened_same m old t new is.bytes (whole bodies) is.read is.opened
+  module _ (new : D) (bodies : List (List ℕ)) (len : ℕ) (synced : D) (is : journal.IsFound m old new bodies len synced) where
+    abbrev opened_to : IsOpened m old synced new is.bytes
+    opened_to = opened_same m old synced new is.bytes (whole bodies) is.read is.opened
 
     abbrev content_left : LeavesContent m old new
-    content_left = record { t = t; bytes = is.bytes; told = is.told; opened = opened_to }
+    content_left = record { synced = synced; bytes = is.bytes; told = is.told; opened = opened_to }
 
     -- the history of the frames was found
-    pub found_history : (held : List Entry) → Holds bodies held → journal.HasFrames m bodies len new → IsFound m old new held len t
+    pub found_history : (held : List Entry) → Holds bodies held → journal.HasFrames m bodies len new → IsFound m old new held len synced
     found_history held holds file = record {
       bytes = is.bytes;
       told = is.told;
@@ -56,13 +56,13 @@ module _ {D : Type 0} (m : Meaning D) (old : D) where
   -- the journal was not opened
   pub journal_refused : (new : D) (why : JournalError) (error : OpenError) → journal_answers.IsOpenRefusal m old new why → IsRefusalOf why error → IsOpenRefusal m old new error
   journal_refused new journal_error.Memory error is same =
-      subst (λ (e : OpenError). IsOpenRefusal m old new e) (sym same) (record { t = is.0; bytes = is.1; told = is.2; opened = opened_same m old is.0 new is.1 (reading is.1) refl is.3 })
+      subst (λ (e : OpenError). IsOpenRefusal m old new e) (sym same) (record { synced = is.0; bytes = is.1; told = is.2; opened = opened_same m old is.0 new is.1 (reading is.1) refl is.3 })
   journal_refused new (journal_error.DiskFault count) error is same =
       subst (λ (e : OpenError). IsOpenRefusal m old new e) (sym same)
-      (is.0, is.1, ⊎_elim (λ nothing. inl nothing) (λ (r : (t : ℕ) × (bytes : List ℕ) × Tells (m.seen old) bytes × frames.IsOpened m old t new (reading bytes)). inr (record { t = r.0; bytes = r.1; told = r.2; opened = opened_same m old r.0 new r.1 (reading r.1) refl r.3 })) is.2)
-  journal_refused new (journal_error.Damaged frame before) open_error.Memory is same = record { t = is.0; bytes = is.1; told = is.2; opened = opened_same m old is.0 new is.1 (reading is.1) refl is.4 }
+      (is.0, is.1, ⊎_elim (λ nothing. inl nothing) (λ (r : (synced : D) × (bytes : List ℕ) × Tells (m.seen old) bytes × frames.IsOpened m old synced new (reading bytes)). inr (record { synced = r.0; bytes = r.1; told = r.2; opened = opened_same m old r.0 new r.1 (reading r.1) refl r.3 })) is.2)
+  journal_refused new (journal_error.Damaged frame before) open_error.Memory is same = record { synced = is.0; bytes = is.1; told = is.2; opened = opened_same m old is.0 new is.1 (reading is.1) refl is.4 }
   journal_refused new (journal_error.Damaged frame before) (open_error.Damaged other) is same =
-      (record { t = is.0; bytes = is.1; told = is.2; opened = opened_same m old is.0 new is.1 (reading is.1) refl is.4 }, has_what (damaged frame before) is.1 (damage other) is.3 same)
+      (record { synced = is.0; bytes = is.1; told = is.2; opened = opened_same m old is.0 new is.1 (reading is.1) refl is.4 }, has_what (damaged frame before) is.1 (damage other) is.3 same)
   journal_refused new (journal_error.Damaged frame before) (open_error.DiskFault count) is same = absurd same
   journal_refused new (journal_error.Broken count) error is same = absurd is
   journal_refused new (journal_error.Full len) error is same = absurd is

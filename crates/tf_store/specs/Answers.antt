@@ -21,6 +21,11 @@ use Rattle.tf_store.specs.declared.error.StoreError.TheVariants as store_error
 abbrev pub frame_size : List Entry → ℕ
 frame_size entries = length (spelled_entries First entries) + 9
 
+-- how many bytes these entries add to the file: those of one frame, where there are any
+abbrev pub added_size : List Entry → ℕ
+added_size [] = 0
+added_size (e ∷ entries) = frame_size (e ∷ entries)
+
 -- the body of one of the frames is damaged, or memory is wanted
 abbrev pub IsReplayRefusal : List (List ℕ) → OpenError → Type 0
 IsReplayRefusal bodies open_error.Memory = Unit {0}
@@ -114,12 +119,12 @@ failed_after failed entries (Err (store_error.Broken count)) = failed
 failed_after failed entries (Err (store_error.Full len)) = failed
 
 module _ {D : Type 0} (m : Meaning D) where
-  -- The bytes of the disk were read, and each image since the moment t of the first sync has what they have.
+  -- The bytes of the disk were read, and each image since the first sync has what they have.
   pub record LeavesContent (old new : D) : Type 0 where
-    pub t : ℕ
+    pub synced : D
     pub bytes : List ℕ
     pub told : Tells (m.seen old) bytes
-    pub opened : IsOpened m old t new bytes
+    pub opened : IsOpened m old synced new bytes
 
   -- why an opening was refused, and what it left
   abbrev pub IsOpenRefusal : D → D → OpenError → Type 0

@@ -1,8 +1,9 @@
 -- What a crash may leave, told by histories.
-use Rattle.std.specs.Prelude.{◌⊎◌, ℕ, ◌≤◌, List, ◌++◌}
+use Rattle.std.specs.Prelude.{◌⊎◌, ℕ, List, ◌++◌}
 use mathlib.Core.List.{IsPrefix}
 use Rattle.tf_model.specs.declared.entry.Entry.{Entry}
 use Rattle.tf_disk.specs.Disk.{Meaning}
+use Rattle.tf_journal.specs.Crashes.{IsSynced, LeavesOnly}
 use Rattle.tf_store.specs.Histories.{Content, Has, HasHistory}
 
 -- the file has this history, with these entries behind it or without them
@@ -21,16 +22,12 @@ abbrev pub HasTheSame : List ℕ → List ℕ → Type 0
 HasTheSame bytes image = (content : Content) → Has bytes content → Has image content
 
 module _ {D : Type 0} (m : Meaning D) where
-  -- Since the moment t of the first sync each image has what these bytes have. Before it a crash left what it might
-  -- have left before.
-  pub record IsOpened (old : D) (t : ℕ) (new : D) (bytes : List ℕ) : Type 0 where
-    pub from : m.moment old ≤ t
-    pub to : t ≤ m.moment new
-    pub since : (image : List ℕ) → m.left_since new t image → HasTheSame bytes image
-    pub before : (s : ℕ) (image : List ℕ) → s ≤ m.moment old → m.left_since new s image → m.left_since old s image ⊎ HasTheSame bytes image
+  -- An opening begins with a sync. Each image since then has what these bytes have.
+  pub record IsOpened (old synced new : D) (bytes : List ℕ) : Type 0 where
+    pub first_sync : IsSynced m old synced
+    pub since : LeavesOnly m synced new (HasTheSame bytes)
 
-  -- each image since the moment t has a history that the first one begins and that begins the last one
-  pub record Keeps (t : ℕ) (first last : List Entry) (disk : D) : Type 0 where
-    pub past : t ≤ m.moment disk
+  -- each image since the first sync has a history that the first one begins and that begins the last one
+  pub record Keeps (synced : D) (first last : List Entry) (disk : D) : Type 0 where
     pub begins : IsPrefix first last
-    pub each : (image : List ℕ) → m.left_since disk t image → IsBetween first last image
+    pub since : LeavesOnly m synced disk (IsBetween first last)

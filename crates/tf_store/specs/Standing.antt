@@ -21,11 +21,11 @@ pub record StandsFor {D : Type 0} (m : Meaning D) (history : List Entry) (len : 
   pub reads : IfSome (m.seen disk) (λ bytes. HasHistory bytes history)
   pub images : (image : List ℕ) → m.may_leave disk image → HasHistory image history
 
--- What is known of each image since the moment t, where first was the history then, and of each that a crash now may
+-- What is known of each image since the first sync, where first was the history then, and of each that a crash now may
 -- leave. Where the store is broken, failed are the entries whose append failed.
-abbrev pub KnownAt : {D : Type 0} → Option ℕ → Meaning D → ℕ → List Entry → List Entry → List Entry → ℕ → D → Type 0
-KnownAt None m t first history failed len disk = StandsFor m history len disk × Keeps m t first history disk
-KnownAt (Some count) m t first history failed len disk = ((image : List ℕ) → m.may_leave disk image → IsBeforeOrAfter history failed image) × Keeps m t first (history ++ failed) disk × AreTakenAfter history failed
+abbrev pub KnownAt : {D : Type 0} → Option ℕ → Meaning D → D → List Entry → List Entry → List Entry → ℕ → D → Type 0
+KnownAt None m synced first history failed len disk = StandsFor m history len disk × Keeps m synced first history disk
+KnownAt (Some count) m synced first history failed len disk = ((image : List ℕ) → m.may_leave disk image → IsBeforeOrAfter history failed image) × Keeps m synced first (history ++ failed) disk × AreTakenAfter history failed
 
 -- What is known of a store with this history, of which the opening found so many entries, whether it is broken or not.
 pub record IsKnown {D : Type 0} (m : Meaning D) (found : ℕ) (history failed : List Entry) (journal : Journal D) : Type 0 where
@@ -34,12 +34,12 @@ pub record IsKnown {D : Type 0} (m : Meaning D) (found : ℕ) (history failed : 
   pub spelled : AllByRecursion (FitsEntry First) history
   pub crashes : KnownAt (broken_at journal) m (opened_at journal) (take found history) history failed (file_len journal) (disk_of journal)
 
--- An opening found this history in the bytes of the disk, and its first sync was at the moment t.
-pub record IsFound {D : Type 0} (m : Meaning D) (old new : D) (history : List Entry) (len t : ℕ) : Type 0 where
+-- An opening found this history in the bytes of the disk, and its first sync left the disk so.
+pub record IsFound {D : Type 0} (m : Meaning D) (old new : D) (history : List Entry) (len : ℕ) (synced : D) : Type 0 where
   pub bytes : List ℕ
   pub told : Tells (m.seen old) bytes
   pub has : HasHistory bytes history
-  pub opened : IsOpened m old t new bytes
+  pub opened : IsOpened m old synced new bytes
   pub stands : StandsFor m history len new
 
 -- each entry of a history has a spelling

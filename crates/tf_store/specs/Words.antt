@@ -40,6 +40,6 @@ module _ {D : Type 0} {g : Ghosts D} where
   abbrev pub broken_at : Store D g → Option ℕ
   broken_at store = journal.broken_at store.journal
 
-  -- the moment of the first sync of its opening
-  abbrev pub opened_at : Store D g → ℕ
+  -- the disk just after the first sync of its opening
+  abbrev pub opened_at : Store D g → D
   opened_at store = journal.opened_at store.journal

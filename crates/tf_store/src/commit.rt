@@ -1,5 +1,5 @@
 // Committing entries.
-ghost use Rattle.std.specs.Prelude.{◌≡◌, ◌≤◌, ◌+◌, ◌++◌, List, ℕ, None, length, IfOk, OnOk};
+ghost use Rattle.std.specs.Prelude.{◌≡◌, ◌≤◌, ◌+◌, ◌++◌, List, ℕ, None, is_some, length, IfOk, OnOk};
 ghost use Rattle.tf_model.specs.declared.entry.Entry.{Entry};
 ghost use Rattle.tf_journal.specs.Crashes.{LeavesOnly};
 ghost use Rattle.tf_event.specs.Entries.{IsBody, spelled_entries};
@@ -49,6 +49,7 @@ impl<D: Disk> Store<D> {
         ensures found { found_of self.new ≡ found_of self.old }
         ensures opened { (opened_at self.new ≡ opened_at self.old) × (opened_with self.new ≡ opened_with self.old) }
         ensures later { D.meaning.faults (disk_of self.old) ≤ D.meaning.faults (disk_of self.new) }
+        ensures tells { is_some (D.meaning.seen (disk_of self.new)) ≡ is_some (D.meaning.seen (disk_of self.old)) }
     {
         if let Some(count) = self.broken {
             return Err(StoreError::Broken { count });

@@ -1,5 +1,5 @@
 // Opening a store.
-ghost use Rattle.std.specs.Prelude.{◌≡◌, ◌≤◌, length, None, IfOk, IfErr};
+ghost use Rattle.std.specs.Prelude.{◌≡◌, ◌≤◌, length, None, is_some, IfOk, IfErr};
 ghost use Rattle.tf_store.specs.Standing.{IsFound};
 ghost use Rattle.tf_store.specs.Answers.{IsOpenRefusal, IsRefusalOf};
 
@@ -30,6 +30,8 @@ impl<D: Disk> Store<D> {
         ensures refused { IfErr result (λ e. IsOpenRefusal D.meaning disk e.1 e.0) }
         ensures later { IfOk result (λ store. D.meaning.faults disk ≤ D.meaning.faults (disk_of store)) }
         ensures later_refused { IfErr result (λ e. D.meaning.faults disk ≤ D.meaning.faults e.1) }
+        ensures tells { IfOk result (λ store. is_some (D.meaning.seen (disk_of store)) ≡ is_some (D.meaning.seen disk)) }
+        ensures tells_refused { IfErr result (λ e. is_some (D.meaning.seen e.1) ≡ is_some (D.meaning.seen disk)) }
     {
         match Journal::open(alloc, disk) {
             Ok((journal, frames)) => match replay(alloc, frames) {

@@ -1,13 +1,16 @@
 // Submitting a command.
-ghost use Rattle.std.specs.Prelude.{◌≡◌, ◌≤◌, ◌++◌, [], ℕ, ℤ, IfOk, length, reverse, take, true};
+ghost use Rattle.std.specs.Prelude.{◌≡◌, ◌≤◌, ◌+◌, ◌++◌, [], ℕ, ℤ, IfOk, OnOk, is_some, length, reverse, take, true};
 ghost use Rattle.std.specs.List.{AllByRecursion};
 ghost use Rattle.tf_command.specs.Formed.{IsFormed};
+ghost use Rattle.tf_journal.specs.Crashes.{LeavesOnly};
 ghost use Rattle.tf_event.specs.Entries.{FitsEntry};
 ghost use Rattle.tf_event.specs.declared.grammar.Grammar.TheVariants.{First};
 ghost use Rattle.tf_core.specs.Legal.{AreTakenAfter};
 ghost use Rattle.tf_decide.specs.Replying.{is_settle, replied, replied_after};
-ghost use Rattle.tf_store.specs.Answers.{OnNoCall, SubmitAnswers, broken_after, counted, failed_after, history_after};
+ghost use Rattle.tf_store.specs.Answers.{OnNoCall, SubmitAnswers, added_size, broken_after, counted, failed_after, history_after};
 ghost use Rattle.tf_store.specs.Commands.{entries_of};
+ghost use Rattle.tf_store.specs.Crashes.{IsBeforeOrAfter};
+ghost use Rattle.tf_store.specs.Standing.{StandsFor};
 
 use crate::error::StoreError;
 use crate::state::Store;
@@ -41,9 +44,22 @@ impl<D: Disk> Store<D> {
         ensures no_call { let entries = entries_of (history_of self.old) actor now command in let number = length (history_of self.old ++ entries) in
             OnNoCall (counted number result) (journal_of self.new ≡ journal_of self.old) }
         ensures no_entry { entries_of (history_of self.old) actor now command ≡ [] → journal_of self.new ≡ journal_of self.old }
+
+        // The history of the file is the one from before it, followed by the entries.
+        ensures stands { let entries = entries_of (history_of self.old) actor now command in
+            StandsFor D.meaning (history_of self.old) (file_len self.old) (disk_of self.old)
+            → OnOk result (StandsFor D.meaning (history_of self.old ++ entries) (file_len self.new) (disk_of self.new)) }
+
+        // A crash at any moment of the call leaves the history from before it, with the entries or without them.
+        ensures any_moment { let entries = entries_of (history_of self.old) actor now command in
+            StandsFor D.meaning (history_of self.old) (file_len self.old) (disk_of self.old)
+            → LeavesOnly D.meaning (disk_of self.old) (disk_of self.new) (IsBeforeOrAfter (history_of self.old) entries) }
+
+        ensures len { OnOk result (file_len self.new ≡ file_len self.old + added_size (entries_of (history_of self.old) actor now command)) }
         ensures found { found_of self.new ≡ found_of self.old }
         ensures opened { (opened_at self.new ≡ opened_at self.old) × (opened_with self.new ≡ opened_with self.old) }
         ensures later { D.meaning.faults (disk_of self.old) ≤ D.meaning.faults (disk_of self.new) }
+        ensures tells { is_some (D.meaning.seen (disk_of self.new)) ≡ is_some (D.meaning.seen (disk_of self.old)) }
     {
         let decision = decide(self.alloc, &self.core, command, actor, now)?;
         self.commit_any(decision.entries)?;
@@ -71,9 +87,15 @@ impl<D: Disk> Store<D> {
         ensures failed { failed_of self.new ≡ failed_after (failed_of self.old) entries (counted (length (history_of self.old ++ entries)) result) }
         ensures no_call { OnNoCall (counted (length (history_of self.old ++ entries)) result) (journal_of self.new ≡ journal_of self.old) }
         ensures no_entry { entries ≡ [] → journal_of self.new ≡ journal_of self.old }
+        ensures stands { StandsFor D.meaning (history_of self.old) (file_len self.old) (disk_of self.old)
+            → OnOk result (StandsFor D.meaning (history_of self.old ++ entries) (file_len self.new) (disk_of self.new)) }
+        ensures any_moment { StandsFor D.meaning (history_of self.old) (file_len self.old) (disk_of self.old)
+            → LeavesOnly D.meaning (disk_of self.old) (disk_of self.new) (IsBeforeOrAfter (history_of self.old) entries) }
+        ensures len { OnOk result (file_len self.new ≡ file_len self.old + added_size entries) }
         ensures found { found_of self.new ≡ found_of self.old }
         ensures opened { (opened_at self.new ≡ opened_at self.old) × (opened_with self.new ≡ opened_with self.old) }
         ensures later { D.meaning.faults (disk_of self.old) ≤ D.meaning.faults (disk_of self.new) }
+        ensures tells { is_some (D.meaning.seen (disk_of self.new)) ≡ is_some (D.meaning.seen (disk_of self.old)) }
     {
         if entries.is_empty() {
             return Ok(());
