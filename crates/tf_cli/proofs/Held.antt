@@ -1,5 +1,7 @@
 -- What a run leaves of its file, by what a store keeps in its type.
-use Rattle.std.proofs.Common.{◌≡◌, ℕ, List, Option, Some, None, ◌++◌, length, take, sym, ap, subst, ◌∙◌}
+use Rattle.std.proofs.Common.{◌≡◌, ℕ, List, Option, Some, None, ◌++◌, is_some, length, take, sym, ap, subst, ◌∙◌}
+use Rattle.std.proofs.Math.Bool.{Bool-set}
+use Rattle.std.proofs.Math.Logic.{∥∥₁_elim}
 use Rattle.std.proofs.Math.Seq.{take-append_seam}
 use mathlib.Core.Logic.{∥∥₁_map}
 use mathlib.Core.List.{IsPrefix}
@@ -13,6 +15,16 @@ use Rattle.tf_cli.specs.Top.{HoldsAll, MayHold}
 
 front_is : {A : Type 0} (xs ys : List A) → IsPrefix xs ys → take (length xs) ys ≡ xs
 front_is xs ys p = ap (take (length xs)) (sym p.1) ∙ take-append_seam xs p.0
+
+-- whether the disk tells its bytes is as it was at the opening's first sync
+module _ {D : Type 0} (m : Meaning D) (held failed : List Entry) where
+  tells_at : (broken : Option ℕ) (synced : D) (first : List Entry) (len : ℕ) (disk : D) → KnownAt broken m synced first held failed len disk → is_some (m.seen disk) ≡ is_some (m.seen synced)
+  tells_at None synced first len disk known = known.1.since.tells
+  tells_at (Some at) synced first len disk known = known.1.since.tells
+
+  pub tells_so : (found : ℕ) (journal : Journal D) → ∥ IsKnown m found held failed journal ∥₁ → is_some (m.seen (disk_of journal)) ≡ is_some (m.seen (opened_at journal))
+  tells_so found journal known = ∥∥₁_elim known (hlevel Bool-set) (λ (known : IsKnown m found held failed journal).
+      tells_at (broken_at journal) (opened_at journal) (take found held) (file_len journal) (disk_of journal) known.crashes)
 
 module _ {D : Type 0} (m : Meaning D) (first last failed : List Entry) (found : ℕ) (journal : Journal D) (count : found ≡ length first) (begun : IsPrefix first last) (known : ∥ IsKnown m found last failed journal ∥₁) where
   found_is : take found last ≡ first

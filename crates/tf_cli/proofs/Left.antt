@@ -1,8 +1,7 @@
 -- What a run over a file leaves, from the answers of its steps.
-use Rattle.std.proofs.Common.{◌≡◌, ℕ, ◌+◌, ◌<◌, ◌≤◌, ◌^◌, List, Option, length, take, reverse, refl, sym, subst, arith, inl, inr}
+use Rattle.std.proofs.Common.{◌≡◌, ℕ, ◌+◌, ◌<◌, ◌^◌, List, Option, length, take, reverse, refl, sym, subst, inl}
 use Rattle.std.specs.Io.KnownBytes.{Appends}
 use mathlib.Core.List.{IsPrefix}
-use Rattle.tf_model.specs.Causes.{Rose}
 use Rattle.tf_model.specs.declared.entry.Entry.{Entry}
 use Rattle.tf_disk.specs.Disk.{Meaning}
 use Rattle.tf_journal.specs.declared.state.Journal.{Journal}
@@ -16,25 +15,12 @@ use Rattle.tf_store.specs.declared.error.StoreError.TheVariants as store_error
 use Rattle.tf_serial.specs.Frames.{IsOfLines}
 use Rattle.tf_serial.specs.Parts.{IsStop}
 use Rattle.tf_serial.specs.Script.{history_after, output}
-use Rattle.tf_cli.specs.Top.{Finds, HoldsAll, IsLeft, IsLeftOver, IsSound, IsWritten, stopped, unopened}
+use Rattle.tf_cli.specs.Top.{HoldsAll, IsLeft, IsLeftOver, IsSound, IsWritten, stopped, unopened}
 use Rattle.tf_cli.specs.declared.outcome.Outcome.{Outcome}
 use Rattle.tf_cli.specs.declared.outcome.Outcome.TheVariants as outcome
 use Rattle.tf_cli.proofs.Held.{holds_all, may_hold}
 
-pub rose_later : (first before now : ℕ) → first ≤ before → Rose before now → Rose first now
-rose_later first before now later rose = grind arith
-
 module _ {D : Type 0} (m : Meaning D) (before : D) (written_before written_now : Option (List ℕ)) (sink_before sink_now : ℕ) (lines : List (List ℕ)) (first : List Entry) where
-  -- a run that opened its file
-  pub opened : (mid now : D) (t : ℕ) (o : Outcome) → Finds m before first → m.faults before ≤ m.faults mid → IsLeftOver m mid now written_before written_now sink_before sink_now lines t first o
-      → IsLeft m before now written_before written_now sink_before sink_now lines o
-  opened mid now t outcome.Done finds later left = record { first = first; finds = finds; t = t; then = left }
-  opened mid now t (outcome.WriteFault taken) finds later left = (left.0, record { first = first; finds = finds; t = t; then = left.1 })
-  opened mid now t (outcome.DiskFault entries) finds later left = (rose_later (m.faults before) (m.faults mid) (m.faults now) later left.0, inr (record { first = first; finds = finds; t = t; then = left.1 }))
-  opened mid now t (outcome.Damaged frame) finds later left = absurd left
-  opened mid now t outcome.Memory finds later left = inr (record { first = first; finds = finds; t = t; then = left })
-  opened mid now t (outcome.Full len) finds later left = record { first = first; finds = finds; t = t; then = left }
-
   -- a run that did not open it
   pub refused : (now : D) (e : OpenError) → IsOpenRefusal m before now e → IsLeft m before now written_before written_now sink_before sink_now lines (unopened e)
   refused now open_error.Memory left = inl left
@@ -42,20 +28,20 @@ module _ {D : Type 0} (m : Meaning D) (before : D) (written_before written_now :
   refused now (open_error.Damaged frame) left = record { leaves = left.0; damage = left.1 }
 
   -- a run that did all lines and came to writing
-  pub ran : (now : D) (t len : ℕ) (o : Outcome) (text : List ℕ) → IsWritten written_before written_now sink_before sink_now text o → text ≡ output (reverse first) 1 lines
-      → IsSound first (history_after first lines) → ∥ HoldsAll m t first (history_after first lines) len now ∥₁ → IsLeftOver m before now written_before written_now sink_before sink_now lines t first o
-  ran now t len outcome.Done text written is sound held = record { wrote = subst (Appends written_before written_now) is written; sound = sound; len = len; held = held }
-  ran now t len (outcome.WriteFault taken) text written is sound held = (
+  pub ran : (now synced : D) (len : ℕ) (o : Outcome) (text : List ℕ) → IsWritten written_before written_now sink_before sink_now text o → text ≡ output (reverse first) 1 lines
+      → IsSound first (history_after first lines) → ∥ HoldsAll m synced first (history_after first lines) len now ∥₁ → IsLeftOver m before now written_before written_now sink_before sink_now lines synced first o
+  ran now synced len outcome.Done text written is sound held = record { wrote = subst (Appends written_before written_now) is written; sound = sound; len = len; held = held }
+  ran now synced len (outcome.WriteFault taken) text written is sound held = (
     written.0,
     record {
       ran = record { wrote = subst (λ x. Appends written_before written_now (take taken x)) is written.2; sound = sound; len = len; held = held };
       partly = subst (λ x. taken < length x) is written.1;
     },
   )
-  ran now t len (outcome.DiskFault entries) text written is sound held = absurd written
-  ran now t len (outcome.Damaged frame) text written is sound held = absurd written
-  ran now t len outcome.Memory text written is sound held = absurd written
-  ran now t len (outcome.Full full) text written is sound held = absurd written
+  ran now synced len (outcome.DiskFault entries) text written is sound held = absurd written
+  ran now synced len (outcome.Damaged frame) text written is sound held = absurd written
+  ran now synced len outcome.Memory text written is sound held = absurd written
+  ran now synced len (outcome.Full full) text written is sound held = absurd written
 
   -- a run whose script stopped
   pub stops : (left failed : List Entry) (found : ℕ) (journal : Journal D) (e : StoreError) → found ≡ length first → IsPrefix first left → ∥ IsKnown m found left failed journal ∥₁ → IsSound first left

@@ -69,7 +69,7 @@ module _ {D : Type 0} (m : Meaning D) (before now : D) (written_before written_n
   abbrev Left : Outcome → Type 0
   Left o = IsLeft m before now written_before written_now sink_before sink_now lines o
 
-  pub done : (o : Outcome) → Left o → (ended o).status ≡ 0 → AfterOpening m before (λ t. Ran m t now written_before written_now (λ output. output) lines)
+  pub done : (o : Outcome) → Left o → (ended o).status ≡ 0 → AfterOpening m before (λ synced. Ran m synced now written_before written_now (λ output. output) lines)
   done outcome.Done left is = left
   done (outcome.WriteFault taken) left is = absurd (omega (arith, is))
   done (outcome.DiskFault entries) left is = absurd (omega (arith, is))
@@ -77,7 +77,7 @@ module _ {D : Type 0} (m : Meaning D) (before now : D) (written_before written_n
   done outcome.Memory left is = absurd (omega (arith, is))
   done (outcome.Full len) left is = absurd (omega (arith, is))
 
-  pub write_fault : (o : Outcome) → Left o → (ended o).status ≡ 4 → Rose sink_before sink_now × AfterOpening m before (λ t. RanPartly m t now written_before written_now (ended o).detail lines)
+  pub write_fault : (o : Outcome) → Left o → (ended o).status ≡ 4 → Rose sink_before sink_now × AfterOpening m before (λ synced. RanPartly m synced now written_before written_now (ended o).detail lines)
   write_fault outcome.Done left is = absurd (omega (arith, is))
   write_fault (outcome.WriteFault taken) left is = left
   write_fault (outcome.DiskFault entries) left is = absurd (omega (arith, is))
@@ -85,7 +85,7 @@ module _ {D : Type 0} (m : Meaning D) (before now : D) (written_before written_n
   write_fault outcome.Memory left is = absurd (omega (arith, is))
   write_fault (outcome.Full len) left is = absurd (omega (arith, is))
 
-  pub disk_fault : (o : Outcome) → Left o → (ended o).status ≡ 5 → Rose (m.faults before) (m.faults now) × (FailedToOpen m before now (ended o).detail ⊎ AfterOpening m before (λ t. StoppedByDisk m t now (ended o).detail lines))
+  pub disk_fault : (o : Outcome) → Left o → (ended o).status ≡ 5 → Rose (m.faults before) (m.faults now) × (FailedToOpen m before now (ended o).detail ⊎ AfterOpening m before (λ synced. StoppedByDisk m synced now (ended o).detail lines))
   disk_fault outcome.Done left is = absurd (omega (arith, is))
   disk_fault (outcome.WriteFault taken) left is = absurd (omega (arith, is))
   disk_fault (outcome.DiskFault entries) left is = left
@@ -101,7 +101,7 @@ module _ {D : Type 0} (m : Meaning D) (before now : D) (written_before written_n
   damaged outcome.Memory left is = absurd (omega (arith, is))
   damaged (outcome.Full len) left is = absurd (omega (arith, is))
 
-  pub memory : (o : Outcome) → Left o → (ended o).status ≡ 8 → LeavesContent m before now ⊎ AfterOpening m before (λ t. StoppedShort m t now lines)
+  pub memory : (o : Outcome) → Left o → (ended o).status ≡ 8 → LeavesContent m before now ⊎ AfterOpening m before (λ synced. StoppedShort m synced now lines)
   memory outcome.Done left is = absurd (omega (arith, is))
   memory (outcome.WriteFault taken) left is = absurd (omega (arith, is))
   memory (outcome.DiskFault entries) left is = absurd (omega (arith, is))
@@ -109,7 +109,7 @@ module _ {D : Type 0} (m : Meaning D) (before now : D) (written_before written_n
   memory outcome.Memory left is = left
   memory (outcome.Full len) left is = absurd (omega (arith, is))
 
-  pub full : (o : Outcome) → Left o → (ended o).status ≡ 9 → AfterOpening m before (λ t. StoppedFull m t now (ended o).detail lines)
+  pub full : (o : Outcome) → Left o → (ended o).status ≡ 9 → AfterOpening m before (λ synced. StoppedFull m synced now (ended o).detail lines)
   full outcome.Done left is = absurd (omega (arith, is))
   full (outcome.WriteFault taken) left is = absurd (omega (arith, is))
   full (outcome.DiskFault entries) left is = absurd (omega (arith, is))

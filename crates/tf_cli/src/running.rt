@@ -1,5 +1,5 @@
 // A run of a script over a file.
-ghost use Rattle.std.specs.Prelude.{◌≡◌, ◌≤◌, None, length, reverse, string_bytes};
+ghost use Rattle.std.specs.Prelude.{◌≡◌, ◌≤◌, None, is_some, length, reverse, string_bytes};
 ghost use Rattle.std.specs.Io.KnownBytes.{Appends};
 ghost use Rattle.tf_cli.specs.Top as spec;
 ghost use Rattle.tf_cli.specs.Top.{IsLeft, IsLeftOver, IsWritten, NotWritten};
@@ -22,6 +22,7 @@ pub fn run_file<K: Sink, D: Disk>(
     ensures left { IsLeft D.meaning disk result.1 (K.written out.old) (K.written out.new) (K.faults out.old) (K.faults out.new) lines.now result.0 }
     ensures unwritten { NotWritten result.0 (out.new ≡ out.old) }
     ensures later { (K.faults out.old ≤ K.faults out.new) × (D.meaning.faults disk ≤ D.meaning.faults result.1) }
+    ensures tells { is_some (D.meaning.seen result.1) ≡ is_some (D.meaning.seen disk) }
 {
     match Store::open(alloc, disk) {
         Ok(store) => run_store(alloc, lines, out, store),
@@ -41,6 +42,7 @@ fn run_store<K: Sink, D: Disk>(
     ensures left { IsLeftOver D.meaning (disk_of store) result.1 (K.written out.old) (K.written out.new) (K.faults out.old) (K.faults out.new) lines.now (opened_at store) (history_of store) result.0 }
     ensures unwritten { NotWritten result.0 (out.new ≡ out.old) }
     ensures later { (K.faults out.old ≤ K.faults out.new) × (D.meaning.faults (disk_of store) ≤ D.meaning.faults result.1) }
+    ensures tells { is_some (D.meaning.seen result.1) ≡ is_some (D.meaning.seen (disk_of store)) }
 {
     let mut store = store;
     match run_script(alloc, lines, &mut store) {

@@ -1,5 +1,5 @@
 // The top call.
-ghost use Rattle.std.specs.Prelude.{◌≡◌, ◌⊎◌, ◌≢◌, ◌<◌, ◌≤◌, ◌↔◌, ℕ, None, map, string_bytes};
+ghost use Rattle.std.specs.Prelude.{◌≡◌, ◌⊎◌, ◌≢◌, ◌<◌, ◌≤◌, ◌↔◌, ℕ, None, is_some, map, string_bytes};
 ghost use Rattle.tf_model.specs.Causes.{Rose};
 ghost use Rattle.tf_io.specs.Reads.{TakesCount};
 ghost use Rattle.tf_store.specs.Answers.{LeavesContent};
@@ -53,7 +53,7 @@ pub fn run_top<S: Source, K: Sink, D: Disk>(
     // Status 0: the source was read to its end, a history was found in the file, the sink gained the replies to the lines done
     // from there, and the file has the history that the lines make.
     ensures done { result.0.status ≡ 0 → OfScript (S.left src.old) (S.left src.new) (λ lines.
-        AfterOpening D.meaning disk (λ t. Ran D.meaning t result.1 (K.written out.old) (K.written out.new) (λ output. output) lines)) }
+        AfterOpening D.meaning disk (λ synced. Ran D.meaning synced result.1 (K.written out.old) (K.written out.new) (λ output. output) lines)) }
 
     // Status 2 comes exactly where the words are not those of a command, and then nothing was called.
     ensures usage { (result.0.status ≡ 2) ↔ (file_of_run (map string_bytes words.now) ≡ None) }
@@ -65,11 +65,11 @@ pub fn run_top<S: Source, K: Sink, D: Disk>(
     // Status 4 comes only where the sink failed in this call. It has then the first bytes of the replies, not all of
     // them, and all lines are in the file.
     ensures write_fault { result.0.status ≡ 4 → Rose (K.faults out.old) (K.faults out.new) × OfScript (S.left src.old) (S.left src.new) (λ lines.
-        AfterOpening D.meaning disk (λ t. RanPartly D.meaning t result.1 (K.written out.old) (K.written out.new) result.0.detail lines)) }
+        AfterOpening D.meaning disk (λ synced. RanPartly D.meaning synced result.1 (K.written out.old) (K.written out.new) result.0.detail lines)) }
 
     // Status 5 comes only where the disk failed in this call: while the file was opened, or while the lines were done.
     ensures disk_fault { result.0.status ≡ 5 → Rose (D.meaning.faults disk) (D.meaning.faults result.1) × OfScript (S.left src.old) (S.left src.new) (λ lines.
-        FailedToOpen D.meaning disk result.1 result.0.detail ⊎ AfterOpening D.meaning disk (λ t. StoppedByDisk D.meaning t result.1 result.0.detail lines)) }
+        FailedToOpen D.meaning disk result.1 result.0.detail ⊎ AfterOpening D.meaning disk (λ synced. StoppedByDisk D.meaning synced result.1 result.0.detail lines)) }
 
     // Status 6: this is the least damaged frame of the bytes that the disk had.
     ensures damaged { result.0.status ≡ 6 → IsDamaged D.meaning disk result.1 result.0.detail }
@@ -80,17 +80,18 @@ pub fn run_top<S: Source, K: Sink, D: Disk>(
 
     // Status 8: what is in the file then is a part of what the lines make.
     ensures memory { result.0.status ≡ 8 → (result.1 ≡ disk) ⊎ OfScript (S.left src.old) (S.left src.new) (λ lines.
-        LeavesContent D.meaning disk result.1 ⊎ AfterOpening D.meaning disk (λ t. StoppedShort D.meaning t result.1 lines)) }
+        LeavesContent D.meaning disk result.1 ⊎ AfterOpening D.meaning disk (λ synced. StoppedShort D.meaning synced result.1 lines)) }
 
     // Status 9: the next frame would make the file longer than 2^40 bytes.
     ensures full { result.0.status ≡ 9 → OfScript (S.left src.old) (S.left src.new) (λ lines.
-        AfterOpening D.meaning disk (λ t. StoppedFull D.meaning t result.1 result.0.detail lines)) }
+        AfterOpening D.meaning disk (λ synced. StoppedFull D.meaning synced result.1 result.0.detail lines)) }
 
     // Nothing was written but at the statuses 0 and 4, and no call of the disk was made at 2, 3 and 7.
     ensures unwritten { result.0.status ≢ 0 → result.0.status ≢ 4 → out.new ≡ out.old }
     ensures uncalled { (result.0.status ≡ 2) ⊎ ((result.0.status ≡ 3) ⊎ (result.0.status ≡ 7)) → result.1 ≡ disk }
 
-    // The counts never fall.
+    // Whether the disk tells its bytes stays, and the counts never fall.
+    ensures tells { is_some (D.meaning.seen result.1) ≡ is_some (D.meaning.seen disk) }
     ensures later { (S.faults src.old ≤ S.faults src.new) × (K.faults out.old ≤ K.faults out.new) × (D.meaning.faults disk ≤ D.meaning.faults result.1) }
 {
     if file_word(words).is_none() {

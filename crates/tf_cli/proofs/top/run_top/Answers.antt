@@ -16,8 +16,8 @@ returns-in-Ok-clause-write_fault g c is =
     let now = c.run_file-outcome.result.1 in
     let left = write_fault m c.args.disk now _ _ _ _ _ o c.run_file-outcome.ensures.left (sym (ap (λ e. e.status) c.end.ensures) ∙ is) in (
       left.0,
-      of_script _ _ _ (λ lines. AfterOpening m c.args.disk (λ t. RanPartly m t now (g.K.Sink.written c.args.out.now) (g.K.Sink.written c.run_file-outcome.new.out) c.end.result.detail lines)) c.in-Ok.ensures.lines
-          (subst (λ detail. AfterOpening m c.args.disk (λ t. RanPartly m t now (g.K.Sink.written c.args.out.now) (g.K.Sink.written c.run_file-outcome.new.out) detail c.in-Ok.lines)) (sym (ap (λ e. e.detail) c.end.ensures)) left.1),
+      of_script _ _ _ (λ lines. AfterOpening m c.args.disk (λ synced. RanPartly m synced now (g.K.Sink.written c.args.out.now) (g.K.Sink.written c.run_file-outcome.new.out) c.end.result.detail lines)) c.in-Ok.ensures.lines
+          (subst (λ detail. AfterOpening m c.args.disk (λ synced. RanPartly m synced now (g.K.Sink.written c.args.out.now) (g.K.Sink.written c.run_file-outcome.new.out) detail c.in-Ok.lines)) (sym (ap (λ e. e.detail) c.end.ensures)) left.1),
     )
 
 pub returns-in-Ok-clause-disk_fault : goal.returns-in-Ok-clause-disk_fault
@@ -27,8 +27,8 @@ returns-in-Ok-clause-disk_fault g c is =
     let now = c.run_file-outcome.result.1 in
     let left = disk_fault m c.args.disk now _ _ _ _ _ o c.run_file-outcome.ensures.left (sym (ap (λ e. e.status) c.end.ensures) ∙ is) in (
       left.0,
-      of_script _ _ _ (λ lines. FailedToOpen m c.args.disk now c.end.result.detail ⊎ AfterOpening m c.args.disk (λ t. StoppedByDisk m t now c.end.result.detail lines)) c.in-Ok.ensures.lines
-          (subst (λ detail. FailedToOpen m c.args.disk now detail ⊎ AfterOpening m c.args.disk (λ t. StoppedByDisk m t now detail c.in-Ok.lines)) (sym (ap (λ e. e.detail) c.end.ensures)) left.1),
+      of_script _ _ _ (λ lines. FailedToOpen m c.args.disk now c.end.result.detail ⊎ AfterOpening m c.args.disk (λ synced. StoppedByDisk m synced now c.end.result.detail lines)) c.in-Ok.ensures.lines
+          (subst (λ detail. FailedToOpen m c.args.disk now detail ⊎ AfterOpening m c.args.disk (λ synced. StoppedByDisk m synced now detail c.in-Ok.lines)) (sym (ap (λ e. e.detail) c.end.ensures)) left.1),
     )
 
 pub returns-in-Ok-clause-damaged : goal.returns-in-Ok-clause-damaged
@@ -44,7 +44,7 @@ returns-in-Ok-clause-memory g c is =
     let m = g.D.Disk.meaning in
     let o = c.run_file-outcome.result.0 in
     let now = c.run_file-outcome.result.1 in
-    inr (of_script _ _ _ (λ lines. LeavesContent m c.args.disk now ⊎ AfterOpening m c.args.disk (λ t. StoppedShort m t now lines)) c.in-Ok.ensures.lines
+    inr (of_script _ _ _ (λ lines. LeavesContent m c.args.disk now ⊎ AfterOpening m c.args.disk (λ synced. StoppedShort m synced now lines)) c.in-Ok.ensures.lines
     (memory m c.args.disk now _ _ _ _ _ o c.run_file-outcome.ensures.left (sym (ap (λ e. e.status) c.end.ensures) ∙ is)))
 
 pub returns-in-Err-clause-no_detail : goal.returns-in-Err-clause-no_detail
