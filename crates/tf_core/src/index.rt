@@ -72,6 +72,13 @@ impl Index {
         &self.mapping
     }
 
+    /// The same, as its documents share it.
+    pub fn shared_mapping(&self) -> &Arc<Mapping, Global>
+        ensures { arc_value result.now ≡ self.now.mapping }
+    {
+        &self.mapping
+    }
+
     /// The same, shared.
     pub fn share_mapping(&self) -> Result<Arc<Mapping, Global>, OutOfMemory>
         ensures { IfOk result (λ shared. arc_value shared ≡ self.now.mapping) }

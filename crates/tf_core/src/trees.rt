@@ -3,12 +3,11 @@ ghost use Rattle.std.specs.Prelude.{◌≡◌, IfOk};
 ghost use Rattle.std.specs.Option.{option_copied};
 ghost use Rattle.tf_core.specs.Allowing as spec;
 ghost use Rattle.tf_mapping.specs.Written as tree_spec;
-ghost use Rattle.tf_model.specs.Values.{value_at as found_at};
 
 use crate::index::Index;
 use std::alloc::Global;
 use tf_mapping::{DocError, read_doc};
-use tf_model::{List, Mapping, OutOfMemory, Text, Tree, Value};
+use tf_model::{OutOfMemory, Text, Tree, Value, Values};
 
 /// The values of a tree that an index keeps where it was written at a moment, none where it does not keep it.
 #[tactic(auto, using(crate::proofs::Written::no_object, crate::proofs::Written::not_read, crate::proofs::Written::kept))]
@@ -17,28 +16,28 @@ pub fn written_values(
     index: &Index,
     at_ms: i64,
     tree: &Tree,
-) -> Result<Option<List<(Text, Value)>>, OutOfMemory>
+) -> Result<Option<Values>, OutOfMemory>
     ensures { IfOk result (λ values. values ≡ spec.written_in index.now at_ms tree.now) }
 {
     if !is_object(tree) {
         return Ok(None);
     }
-    match read_values(alloc, index.mapping(), tree)? {
+    match read_values(alloc, index, tree)? {
         Some(values) => Ok(if_stamped(index.stamp(), at_ms, values)),
         None => Ok(None),
     }
 }
 
-/// The values that a mapping reads from a tree, none where it does not read it.
+/// The values that an index reads from a tree, none where it does not read it.
 #[tactic(auto, unfolding(tf_mapping::specs::Documents::reads))]
 pub fn read_values(
     alloc: Global,
-    mapping: &Mapping,
+    index: &Index,
     tree: &Tree,
-) -> Result<Option<List<(Text, Value)>>, OutOfMemory>
-    ensures { IfOk result (λ values. values ≡ spec.read_in mapping.now tree.now) }
+) -> Result<Option<Values>, OutOfMemory>
+    ensures { IfOk result (λ values. values ≡ spec.read_in index.now.mapping tree.now) }
 {
-    match read_doc(alloc, mapping, None, tree) {
+    match read_doc(alloc, index.shared_mapping(), None, tree) {
         Ok(values) => Ok(Some(values)),
         Err(DocError::Memory) => Err(OutOfMemory),
         Err(
@@ -61,23 +60,23 @@ fn is_object(tree: &Tree) -> bool
 fn if_stamped(
     stamp: Option<&Text>,
     at_ms: i64,
-    values: List<(Text, Value)>,
-) -> Option<List<(Text, Value)>>
+    values: Values,
+) -> Option<Values>
     ensures { result ≡ spec.if_stamped (option_copied stamp.entry) at_ms values }
 {
-    if has_moment(stamp, at_ms, values.as_slice()) {
+    if has_moment(stamp, at_ms, &values) {
         Some(values)
     } else {
         None
     }
 }
 
-fn has_moment(stamp: Option<&Text>, at_ms: i64, values: &[(Text, Value)]) -> bool
+fn has_moment(stamp: Option<&Text>, at_ms: i64, values: &Values) -> bool
     ensures { result ≡ tree_spec.has_moment (option_copied stamp.entry) at_ms values.now }
 {
     match stamp {
         None => true,
-        Some(stamp) => is_moment(at_ms, value_at(values, stamp)),
+        Some(stamp) => is_moment(at_ms, values.get(stamp)),
     }
 }
 
@@ -88,16 +87,4 @@ fn is_moment(at_ms: i64, value: Option<&Value>) -> bool
         Some(Value::Date(found)) => *found == at_ms,
         _ => false,
     }
-}
-
-// The value beside the first such name.
-fn value_at<'a>(values: &'a [(Text, Value)], name: &Text) -> Option<&'a Value>
-    ensures { option_copied result ≡ found_at values.now name.now }
-{
-    for (field, value) in values {
-        if field == name {
-            return Some(value);
-        }
-    }
-    None
 }

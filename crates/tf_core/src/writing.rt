@@ -13,7 +13,7 @@ use crate::ready::{Prepared, Step};
 use crate::trees::read_values;
 use std::alloc::Global;
 use std::sync::Arc;
-use tf_model::{Doc, List, OutOfMemory, Text, Tree, Value};
+use tf_model::{Doc, OutOfMemory, Text, Tree, Values};
 
 /// The document of a Write, where these indices are there and its index reads the tree.
 pub fn doc_of(
@@ -56,7 +56,7 @@ fn values_in(
     alloc: Global,
     index: Option<&Index>,
     tree: &Tree,
-) -> Result<List<(Text, Value)>, OutOfMemory>
+) -> Result<Values, OutOfMemory>
     requires { IsSomeAnd (option_copied index) (λ s. reads s.mapping None tree.now ≡ true) }
     ensures { IfOk result (λ values. values ≡ spec.values_in read (option_copied index.entry) tree.now) }
 {
@@ -67,11 +67,11 @@ fn values_in(
 }
 
 #[tactic(auto, using(crate::proofs::Written::same_values))]
-fn values_by(alloc: Global, index: &Index, tree: &Tree) -> Result<List<(Text, Value)>, OutOfMemory>
+fn values_by(alloc: Global, index: &Index, tree: &Tree) -> Result<Values, OutOfMemory>
     requires { reads index.now.mapping None tree.now ≡ true }
     ensures { IfOk result (λ values. values ≡ read index.now.mapping index.now.stamp tree.now) }
 {
-    match read_values(alloc, index.mapping(), tree)? {
+    match read_values(alloc, index, tree)? {
         Some(values) => Ok(values),
         None => unreachable!(),
     }

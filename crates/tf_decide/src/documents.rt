@@ -206,7 +206,7 @@ pub fn try_document(
 fn refused_by(alloc: Global, source: &Index, doc: &Tree) -> Result<Option<Refusal>, OutOfMemory>
     ensures { IfOk result (λ refused. refused ≡ spec_tried.refused_by (reading source.now.mapping source.now.stamp doc.now)) }
 {
-    match read_doc(alloc, source.mapping(), source.stamp(), doc) {
+    match read_doc(alloc, source.shared_mapping(), source.stamp(), doc) {
         Ok(_) => Ok(None),
         Err(error) => Ok(Some(doc_refusal(error)?)),
     }

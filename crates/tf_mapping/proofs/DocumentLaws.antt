@@ -40,7 +40,7 @@ refused_map f wanted (error.Stamped field) h = ap (ok_map f) h
 refused_map f wanted error.Memory h = tt
 
 -- the values before and those of the fields that are left are the values of all
-abbrev IsSoFar : Option (List ℕ) → Tree → List Field → Values → ℕ → Type 0
+abbrev pub IsSoFar : Option (List ℕ) → Tree → List Field → Values → ℕ → Type 0
 IsSoFar stamp t fields values at = ok_map (λ rest. values ++ rest) (fields_in stamp t (drop at fields)) ≡ fields_in stamp t fields
 
 pub refused_at : (stamp : Option (List ℕ)) (t : Tree) (fields : List Field) (values : Values) (at : ℕ) (field : Field) (refusal : DocError) → at < length fields → field ≡ get_or fields at field
@@ -84,7 +84,7 @@ unstamped_value (Some stamp) name (Some found) v h = by_stamp (bytes_eq stamp na
     by_stamp true h = absurd (cc)
     by_stamp false h = cc
 
-read_value : (stamp : Option (List ℕ)) (name : List ℕ) (found : Result (Option Value) DocError) (v : Option Value) → ok_then (unstamped stamp name) found ≡ Ok v → found ≡ Ok v
+pub read_value : (stamp : Option (List ℕ)) (name : List ℕ) (found : Result (Option Value) DocError) (v : Option Value) → ok_then (unstamped stamp name) found ≡ Ok v → found ≡ Ok v
 read_value stamp name (Ok found) v h = ap Ok (unstamped_value stamp name found v h)
 read_value stamp name (Err refusal) v h = absurd (cc)
 

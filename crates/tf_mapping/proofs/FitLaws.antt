@@ -16,6 +16,7 @@ use Rattle.tf_model.specs.declared.value.Value.TheVariants as value
 use Rattle.tf_model.specs.declared.query.Mapping.{Mapping}
 use Rattle.tf_model.specs.declared.query.FieldType.{FieldType}
 use Rattle.tf_model.specs.declared.query.FieldType.TheVariants.{Keyword, Long, Boolean, Date}
+use Rattle.tf_model.specs.Paired.{is_null}
 use Rattle.tf_model.specs.Rows.{fits_i64}
 use Rattle.tf_model.specs.Trees.{text_in, number_in, truth_in}
 use Rattle.tf_model.specs.Values.{type_at, type_of}
@@ -26,7 +27,7 @@ use Rattle.tf_mapping.specs.declared.error.DocError.{DocError}
 use Rattle.tf_mapping.specs.declared.error.DocError.TheVariants as error
 use Rattle.tf_mapping.specs.Mappings.{names, IsMapping}
 use Rattle.tf_mapping.specs.Scalars.{Seen, nothing, one, many, seen_in, scalars_at}
-use Rattle.tf_mapping.specs.Documents.{typed, date_text, date_by, value_by, value_from, value_found, value_beside, values_of, reading, ok_map, is_null, FitsType, FitsField, AreValues, Answers}
+use Rattle.tf_mapping.specs.Documents.{typed, date_text, date_by, value_by, value_from, value_found, value_beside, values_of, reading, ok_map, FitsType, FitsField, AreValues, Answers}
 use Rattle.tf_mapping.proofs.DocumentLaws.{Field, Values, values_answer}
 
 -- ---- a value that is read fits the type
@@ -84,10 +85,10 @@ seen_fits kind field nothing v h = absurd (cc)
 seen_fits kind field (one t) v h = one_fits kind field t (value_by kind field t) v refl h
 seen_fits kind field many v h = absurd (cc)
 
-found_fits : (t : Tree) (field : Field) (v : Value) → value_found t field ≡ Some v → FitsType field.1 v
+pub found_fits : (t : Tree) (field : Field) (v : Value) → value_found t field ≡ Some v → FitsType field.1 v
 found_fits t field v h = seen_fits field.1 field.0 (seen_in (scalars_at field.0 t)) v h
 
-not_null : (kind : FieldType) (v : Value) → FitsType kind v → not (is_null v) ≡ true
+pub not_null : (kind : FieldType) (v : Value) → FitsType kind v → not (is_null v) ≡ true
 not_null Keyword value.Null fits = absurd fits
 not_null Long value.Null fits = absurd fits
 not_null Boolean value.Null fits = absurd fits

@@ -11,5 +11,6 @@ pub mod MappingLaws
 pub mod DocumentLaws
 pub mod StampLaws
 pub mod FitLaws
+pub mod PairLaws
 pub mod WrittenLaws
 mod Examples

@@ -13,6 +13,7 @@ use Rattle.tf_model.specs.declared.value.Value.TheVariants as value
 use Rattle.tf_model.specs.declared.query.Mapping.{Mapping}
 use Rattle.tf_model.specs.declared.query.FieldType.{FieldType}
 use Rattle.tf_model.specs.declared.query.FieldType.TheVariants.{Keyword, Long, Boolean, Date}
+use Rattle.tf_model.specs.Paired.{is_null}
 use Rattle.tf_model.specs.Rows.{fits_i64}
 use Rattle.tf_model.specs.Values.{type_of}
 use Rattle.tf_model.specs.Trees.{text_in, number_in, truth_in}
@@ -115,10 +116,6 @@ unfoldable pub values_of : Mapping → Option (List ℕ) → Tree → List (List
 values_of mapping stamp t = filter_map (value_beside t) mapping.fields
 
 -- ---- what the values of a document are
-
-abbrev pub is_null : Value → Bool
-is_null value.Null = true
-is_null _ = false
 
 -- a value of a type: a number in i64, a date in range
 abbrev pub FitsType : FieldType → Value → Type 0

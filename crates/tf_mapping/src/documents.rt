@@ -1,16 +1,19 @@
 // Reading of documents.
-ghost use Rattle.std.specs.Prelude.{◌≡◌, [], ◌++◌, IfOk, OnOk};
+ghost use Rattle.std.specs.Prelude.{◌≡◌, IfOk};
+ghost use Rattle.std.specs.Arc.{arc_value};
 ghost use Rattle.std.specs.Option.{option_copied};
 ghost use Rattle.tf_mapping.specs.Documents as spec;
 ghost use Rattle.tf_mapping.specs.Documents.{Answers, AreValues};
 ghost use Rattle.tf_mapping.specs.Mappings.{IsMapping};
+ghost use Rattle.tf_model.specs.Paired.{paired};
 
 use crate::error::DocError;
 use crate::values::read_value;
 use std::alloc::Global;
-use tf_model::{FieldType, List, Mapping, OutOfMemory, Text, Tree, Value};
+use std::sync::Arc;
+use tf_model::{FieldType, List, Mapping, Text, Tree, Value, Values};
 
-/// The values of the mapped fields of a document, ascending by name; a missing field does not stand there.
+/// The values of the mapped fields of a document, which share the mapping.
 ///
 /// A document is an object. Its scalars stand at paths: null has none, an array has those of its items at its own
 /// path, an object has those of its members at its path and their names joined by `.`, and anything else is a scalar. A
@@ -22,15 +25,29 @@ use tf_model::{FieldType, List, Mapping, OutOfMemory, Text, Tree, Value};
 /// stamp does not come. `Memory` may come at any place.
 pub fn read_doc(
     alloc: Global,
-    mapping: &Mapping,
+    mapping: &Arc<Mapping, Global>,
     stamp: Option<&Text>,
     tree: &Tree,
-) -> Result<List<(Text, Value)>, DocError>
-    ensures answer { Answers (spec.reading mapping.now (option_copied stamp.entry) tree.now) result }
-    ensures values { IfOk result (λ values. values ≡ spec.values_of mapping.now (option_copied stamp.entry) tree.now) }
-    ensures good { IsMapping mapping.now → IfOk result (AreValues mapping.now) }
+) -> Result<Values, DocError>
+    ensures answer { Answers (spec.reading (arc_value mapping.now) (option_copied stamp.entry) tree.now) result }
+    ensures values { IfOk result (λ values. values ≡ spec.values_of (arc_value mapping.now) (option_copied stamp.entry) tree.now) }
+    ensures good { IsMapping (arc_value mapping.now) → IfOk result (AreValues (arc_value mapping.now)) }
 {
-    read_all(alloc, mapping, stamp, tree)
+    read_shared(alloc, mapping, stamp, tree)
+}
+
+fn read_shared(
+    alloc: Global,
+    mapping: &Arc<Mapping, Global>,
+    stamp: Option<&Text>,
+    tree: &Tree,
+) -> Result<Values, DocError>
+    ensures { Answers (spec.reading (arc_value mapping.now) (option_copied stamp.entry) tree.now) result }
+{
+    match read_all(alloc, mapping, stamp, tree) {
+        Ok(values) => Ok(Values::new(Arc::try_clone(mapping)?, values)),
+        Err(error) => Err(error),
+    }
 }
 
 #[tactic(auto, unfolding(crate::specs::Documents::reading))]
@@ -39,8 +56,8 @@ fn read_all(
     mapping: &Mapping,
     stamp: Option<&Text>,
     tree: &Tree,
-) -> Result<List<(Text, Value)>, DocError>
-    ensures { Answers (spec.reading mapping.now (option_copied stamp.entry) tree.now) result }
+) -> Result<List<Value>, DocError>
+    ensures { Answers (spec.reading mapping.now (option_copied stamp.entry) tree.now) (spec.ok_map (paired mapping.now.fields) result) }
 {
     read_fields(alloc, mapping.fields.as_slice(), stamp, tree)
 }
@@ -50,32 +67,17 @@ fn read_fields(
     fields: &[(Text, FieldType)],
     stamp: Option<&Text>,
     tree: &Tree,
-) -> Result<List<(Text, Value)>, DocError>
-    ensures { Answers (spec.fields_in (option_copied stamp.entry) tree.now fields.now) result }
+) -> Result<List<Value>, DocError>
+    ensures { Answers (spec.fields_in (option_copied stamp.entry) tree.now fields.now) (spec.ok_map (paired fields.now) result) }
 {
-    let mut values = List::new(alloc);
+    let mut values = List::with_capacity(alloc, fields.len())?;
     for (field, kind) in fields {
         match read_field(alloc, field, *kind, stamp, tree) {
-            Ok(value) => push_value(alloc, &mut values, field, value)?,
+            Ok(value) => values.push(value.unwrap_or(Value::Null))?,
             Err(error) => return Err(error),
         }
     }
     Ok(values)
-}
-
-// The value of a field behind others, where there is one.
-fn push_value(
-    alloc: Global,
-    values: &mut List<(Text, Value)>,
-    field: &Text,
-    value: Option<Value>,
-) -> Result<(), OutOfMemory>
-    ensures { OnOk result (values.new ≡ values.old ++ spec.with_value field.now value []) }
-{
-    if let Some(value) = value {
-        values.push((field.copy(alloc)?, value))?;
-    }
-    Ok(())
 }
 
 fn read_field(

@@ -8,6 +8,7 @@ pub mod Keys
 pub mod Latest
 pub mod Lines
 pub mod Names
+pub mod Paired
 pub mod Order
 pub mod Print
 pub mod Query

@@ -16,6 +16,7 @@ mod task;
 mod text;
 mod tree;
 mod value;
+mod values;
 
 pub use config::{Agg, AggKind, Config, Group, GroupKind, Retention, Shape, SyncTime};
 pub use copy::{TryCopy, copy_config, copy_key, copy_mapping, copy_query, copy_row, copy_tree};
@@ -33,3 +34,4 @@ pub use task::State;
 pub use text::Text;
 pub use tree::Tree;
 pub use value::{Key, Value};
+pub use values::Values;
