@@ -30,11 +30,7 @@ pub fn written_values(
 
 /// The values that an index reads from a tree, none where it does not read it.
 #[tactic(auto, unfolding(tf_mapping::specs::Documents::reads))]
-pub fn read_values(
-    alloc: Global,
-    index: &Index,
-    tree: &Tree,
-) -> Result<Option<Values>, OutOfMemory>
+pub fn read_values(alloc: Global, index: &Index, tree: &Tree) -> Result<Option<Values>, OutOfMemory>
     ensures { IfOk result (λ values. values ≡ spec.read_in index.now.mapping tree.now) }
 {
     match read_doc(alloc, index.shared_mapping(), None, tree) {
@@ -57,11 +53,7 @@ fn is_object(tree: &Tree) -> bool
 }
 
 // The values, where the stamp has the moment.
-fn if_stamped(
-    stamp: Option<&Text>,
-    at_ms: i64,
-    values: Values,
-) -> Option<Values>
+fn if_stamped(stamp: Option<&Text>, at_ms: i64, values: Values) -> Option<Values>
     ensures { result ≡ spec.if_stamped (option_copied stamp.entry) at_ms values }
 {
     if has_moment(stamp, at_ms, &values) {

@@ -13,7 +13,7 @@ use crate::ready::{Prepared, Step};
 use crate::trees::read_values;
 use std::alloc::Global;
 use std::sync::Arc;
-use tf_model::{Doc, OutOfMemory, Text, Tree, Values};
+use tf_model::{Doc, OutOfMemory, Source, Text, Tree, Values};
 
 /// The document of a Write, where these indices are there and its index reads the tree.
 pub fn doc_of(
@@ -30,6 +30,7 @@ pub fn doc_of(
     ensures { IfOk result (λ doc. doc ≡ spec.written_doc read (indices.now ++ all_added steps.now) index shard seq id tree) }
 {
     let values = values_in(alloc, index_at(indices, steps, index as usize), &tree)?;
+    let tree = Source::of(alloc, &tree)?;
     Ok(Doc {
         index,
         shard,
@@ -52,11 +53,7 @@ pub fn written(alloc: Global, at_ms: i64, actor: u8, doc: Doc) -> Result<Prepare
     })
 }
 
-fn values_in(
-    alloc: Global,
-    index: Option<&Index>,
-    tree: &Tree,
-) -> Result<Values, OutOfMemory>
+fn values_in(alloc: Global, index: Option<&Index>, tree: &Tree) -> Result<Values, OutOfMemory>
     requires { IsSomeAnd (option_copied index) (λ s. reads s.mapping None tree.now ≡ true) }
     ensures { IfOk result (λ values. values ≡ spec.values_in read (option_copied index.entry) tree.now) }
 {

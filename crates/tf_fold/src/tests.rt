@@ -1,16 +1,20 @@
 // Folds over small lists, merged.
-ghost use Rattle.std.specs.Prelude.{◌≡◌, ◌≤◌, ◌<◌, ◌+◌, ◌^◌, IfOk, OnOk, Some as Found, None as Nothing, List as L, [], ℕ, length};
+ghost use Rattle.std.specs.Prelude.{◌≡◌, ◌≤◌, ◌<◌, ◌+◌, ◌^◌, IfOk, OnOk, Some as Found, None as Nothing, List as L, [], ◌∷◌, ℕ, length, codes};
 ghost use Rattle.tf_model.specs.Conditions.{IsNoText, IsNumber};
 ghost use Rattle.tf_model.specs.declared.value.Value.TheVariants as value;
 ghost use Rattle.tf_model.specs.Keys.{groups_of};
 ghost use Rattle.tf_model.specs.Rows.{aggs_of};
+ghost use Rattle.tf_model.specs.Paired.{paired};
 ghost use Rattle.tf_model.specs.Values.{value_at, value_of};
+ghost use Rattle.tf_model.specs.declared.query.FieldType.TheVariants as kind;
 
 use super::*;
 use std::alloc::Global;
+use std::sync::Arc;
 use std::test::Fail;
 use tf_model::{
-    Agg, AggKind, Config, Doc, Key, List, OutOfMemory, Query, Row, Shape, Text, Tree, Value,
+    Agg, AggKind, Config, Doc, FieldType, Key, List, Mapping, OutOfMemory, Query, Row, Shape,
+    Source, Text, Tree, Value, Values,
 };
 
 fn agg(alloc: Global, name: &str, kind: AggKind) -> Result<Agg, OutOfMemory> {
@@ -49,22 +53,31 @@ fn config(alloc: Global) -> Result<Config, OutOfMemory>
     })
 }
 
-fn values(alloc: Global, number: Option<i64>) -> Result<List<(Text, Value)>, OutOfMemory>
+fn values(alloc: Global, number: Option<i64>) -> Result<Values, OutOfMemory>
     ensures { IfOk result (λ values. (path : L ℕ) → IsNumber (value_at values path) × IsNoText (value_at values path)) }
 {
     match number {
-        None => Ok(List::new(alloc)),
+        None => placed(alloc, List::new(alloc)),
         Some(number) => one_value(alloc, i128::from(number)),
     }
 }
 
-fn one_value(alloc: Global, number: i128) -> Result<List<(Text, Value)>, OutOfMemory>
+fn one_value(alloc: Global, number: i128) -> Result<Values, OutOfMemory>
     requires { IsNumber (Found (value.Int number)) }
     ensures { IfOk result (λ values. (path : L ℕ) → IsNumber (value_at values path) × IsNoText (value_at values path)) }
 {
     let mut values = List::new(alloc);
-    values.push((Text::from_str(alloc, "n")?, Value::Int(number)))?;
-    Ok(values)
+    values.push(Value::Int(number))?;
+    placed(alloc, values)
+}
+
+// Values of a mapping whose one field is `n`.
+fn placed(alloc: Global, values: List<Value>) -> Result<Values, OutOfMemory>
+    ensures { IfOk result (λ placed. placed ≡ paired ((codes "n", kind.Long) ∷ []) values) }
+{
+    let mut fields = List::new(alloc);
+    fields.push((Text::from_str(alloc, "n")?, FieldType::Long))?;
+    Ok(Values::new(Arc::new(alloc, Mapping { fields })?, values))
 }
 
 // A document whose field `n` has this number, or is missing.
@@ -78,7 +91,7 @@ fn document(alloc: Global, number: Option<i64>) -> Result<Doc, OutOfMemory>
         shard: 0,
         seq: 0,
         id: Text::new(alloc),
-        tree: Tree::Null,
+        tree: Source::of(alloc, &Tree::Null)?,
         values,
     })
 }

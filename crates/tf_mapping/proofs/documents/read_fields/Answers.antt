@@ -12,7 +12,8 @@ returns-in-Err c =
 
 pub loop-field-preserved : goal.loop-field-preserved
 loop-field-preserved c =
-    let added = c.in_ok-push-in-Ok.ensures.ok ∙ ap (λ w. c.loop-field.values ++ w ∷ []) c.unwrap_or.ensures in
-    (one_longer _ _ _ _ c.loop-field.invariant.0 added,
-    more_read (option_copied c.args.stamp) c.args.tree.now c.args.fields.now c.loop-field.values c.push.new.self c.loop-field.field-index c.loop-field-item.result c.in-Ok.value
-    c.loop-field-test.true c.loop-field-item.is c.loop-field.invariant.0 c.loop-field.invariant.1 c.in-Ok.ensures added)
+    let added = c.in_ok-push-in-Ok.ensures.ok ∙ ap (λ w. c.loop-field.values ++ w ∷ []) c.unwrap_or.ensures in (
+      one_longer _ _ _ _ c.loop-field.invariant.0 added,
+      more_read (option_copied c.args.stamp) c.args.tree.now c.args.fields.now c.loop-field.values c.push.new.self c.loop-field.field-index c.loop-field-item.result c.in-Ok.value
+          c.loop-field-test.true c.loop-field-item.is c.loop-field.invariant.0 c.loop-field.invariant.1 c.in-Ok.ensures added,
+    )
