@@ -10,7 +10,7 @@ abbrev pub entry_of : Kept → Entry
 entry_of (kept.Write at_ms actor doc) =
     let d = arc_value doc in
     record { at_ms = at_ms; actor = actor; kind = kind.Write d.index d.shard d.seq d.id d.tree }
-entry_of (kept.Other entry) = entry
+entry_of (kept.Other entry) = arc_value entry
 
 -- a history, oldest entry first
 abbrev pub history_in : List Kept → List Entry

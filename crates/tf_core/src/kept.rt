@@ -6,7 +6,8 @@ use std::alloc::Global;
 use std::sync::Arc;
 use tf_model::{Doc, Entry};
 
-/// An entry as a core keeps it: a Write as its document, which the list of documents shares.
+/// An entry as a core keeps it: a Write as its document, which the list of documents shares. Others are long and few,
+/// and stand behind a share so that an entry is short.
 #[derive(Drop)]
 pub enum Kept {
     Write {
@@ -14,7 +15,7 @@ pub enum Kept {
         actor: u8,
         doc: Arc<Doc, Global>,
     },
-    Other(Entry),
+    Other(Arc<Entry, Global>),
 }
 
 /// The moment of an entry.

@@ -159,7 +159,7 @@ fn whole(
 {
     let step = step_of(alloc, indices, steps, room, &entry)?;
     Ok(Prepared {
-        kept: Kept::Other(entry),
+        kept: Kept::Other(Arc::new(alloc, entry)?),
         step,
     })
 }
