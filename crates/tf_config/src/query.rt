@@ -13,7 +13,7 @@ use crate::catalogue::Catalogue;
 use crate::least::lesser_if;
 use std::alloc::Global;
 use tf_model::{Config, Mapping, OutOfMemory, Query, Text, Tree};
-use tf_query::{QueryError, suits_fields, nests_within, read_query};
+use tf_query::{QueryError, nests_within, read_query, suits_fields};
 
 // How deep queries may nest.
 const MOST_NESTING: u32 = 16;
