@@ -1,5 +1,5 @@
 -- A small history: an index and two documents, which are taken.
-use Rattle.std.proofs.Common.{◌≡◌, ℕ, ◌%◌, ◌&&◌, List, arith, refl, sym, ap, subst, [], ◌∷◌, None, Some, true, false}
+use Rattle.std.proofs.Common.{◌≡◌, ℕ, ◌%◌, ◌&&◌, List, arith, refl, sym, ap, [], ◌∷◌, None, Some, true, false}
 use Rattle.std.specs.Prelude.{ℤ, pos, codes, is_some}
 use Rattle.std.proofs.lemmas.Int.{ints}
 use Rattle.tf_model.specs.Names.{is_index_name}
@@ -86,7 +86,3 @@ second_taken = record {
 
 example_taken : AreTaken [] (example_index ∷ example_write 0 (codes "1") ∷ example_write 1 (codes "2") ∷ [])
 example_taken = (index_taken, (first_taken, (second_taken, tt)))
-
--- one entry that is taken
-pub one_taken : (past : List Entry) (e : Entry) (entries : List Entry) → entries ≡ e ∷ [] → IsTaken past e → AreTaken past entries
-one_taken past e entries is taken = subst (AreTaken past) (sym is) (taken, tt)

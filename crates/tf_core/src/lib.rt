@@ -31,8 +31,6 @@ mod state;
 mod stepping;
 mod table;
 mod taking;
-#[cfg(test)]
-mod tests;
 mod transform;
 mod trees;
 mod writing;
