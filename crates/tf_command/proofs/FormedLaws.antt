@@ -17,7 +17,7 @@ use Rattle.tf_command.specs.declared.table.Name.{Name}
 use Rattle.tf_command.specs.declared.table.Name.TheVariants as name
 use Rattle.tf_command.specs.declared.table.Form.{Form}
 use Rattle.tf_command.specs.declared.table.Form.TheVariants as form
-use Rattle.tf_command.specs.Commands.{max_line, or_else, members_of, op_of, command_from, first_absent, first_bad, fits}
+use Rattle.tf_command.specs.Commands.{max_line, or_else, members_of, op_of, parts_from, first_absent, first_bad, fits}
 use Rattle.tf_command.specs.Forms.{kept_if, object_in, array_in, natural, natural_between, Document, identified, document_id_in, is_document_id, doc_and_id, document_of, document_in, all_documents, counted, documents_in, has_form}
 use Rattle.tf_command.specs.Formed.{AreKept, IsKept, IsShort, IsObject, IsArray, IsDocumentId, IsDocument, AreDocuments, IsFormedOp, IsFormed}
 use Rattle.tf_command.specs.Table.{Member, form_of, required}
@@ -258,6 +258,6 @@ op_formed name.Preview ms complete good lines =
     object_held name.Preview (codes "config") ms refl good lines (all_there ms (required name.Preview) complete).0
 
 pub formed : (line : ℕ) (op : Name) (ms : List (List ℕ × Tree)) → Complete op ms → first_bad op ms ≡ None → AreKept ms
-    → IsFormed (command_from line op (members_of ms))
+    → IsFormed (parts_from line op (members_of ms))
 formed line op ms complete good lines =
     ((ranged 0 7 0 (member_at ms (codes "lane")) (omega arith) (omega arith)).1, op_formed op ms complete good lines)

@@ -8,7 +8,7 @@ use Rattle.tf_model.specs.declared.tree.Tree.TheVariants as tree
 use Rattle.tf_model.specs.Trees.{text_in, number_in, truth_in, members_in, member_at}
 use Rattle.tf_command.specs.Forms.{object_in, array_in, size_in, lane_in, checkpoint_in, moment_in, documents_in, has_form}
 use Rattle.tf_command.specs.Table.{Member, name_of, required, form_of}
-use Rattle.tf_command.specs.declared.command.Command.{Command}
+use Rattle.tf_command.specs.declared.command.Parts.{Parts}
 use Rattle.tf_command.specs.declared.command.Op.{Op}
 use Rattle.tf_command.specs.declared.command.Op.TheVariants as op
 use Rattle.tf_command.specs.declared.command.LineError.{LineError}
@@ -67,8 +67,8 @@ op_of name.Search m = op.Search m.index m.size m.after
 op_of name.Stats m = op.Stats m.id
 op_of name.Preview m = op.Preview m.config
 
-abbrev pub command_from : ℕ → Name → Members → Command
-command_from number name m = record { line = number; lane = m.lane; at_ms = m.at_ms; op = op_of name m }
+abbrev pub parts_from : ℕ → Name → Members → Parts
+parts_from number name m = record { line = number; lane = m.lane; at_ms = m.at_ms; op = op_of name m }
 
 -- ---- refusals
 
@@ -88,10 +88,10 @@ first_bad name [] = None
 first_bad name (member ∷ members) = if fits (form_of name member.0) member.1 then first_bad name members else Some member.0
 
 abbrev pub Outcome : Type 0
-Outcome = Result Command LineError
+Outcome = Result Parts LineError
 
 abbrev pub if_good : ℕ → Name → List (List ℕ × Tree) → Option (List ℕ) → Outcome
-if_good number name members None = Ok (command_from number name (members_of members))
+if_good number name members None = Ok (parts_from number name (members_of members))
 if_good number name members (Some field) = Err (error.BadValue field)
 
 abbrev pub if_complete : ℕ → Name → List (List ℕ × Tree) → Option (List ℕ) → Outcome

@@ -1,4 +1,4 @@
--- What every command that was read keeps to.
+-- What every command keeps to.
 use Rattle.std.specs.Prelude.{ℕ, ◌≤◌, ◌<◌, ◌^◌, List, length, All, IsSome, IfSome}
 use Rattle.std.specs.List.{AllByRecursion}
 use Rattle.tf_model.specs.declared.tree.Tree.{Tree}
@@ -7,7 +7,7 @@ use Rattle.tf_model.specs.Print.{printed}
 use Rattle.tf_model.specs.Trees.{items_in, members_in}
 use Rattle.tf_command.specs.Commands.{max_line}
 use Rattle.tf_command.specs.Forms.{Document}
-use Rattle.tf_command.specs.declared.command.Command.{Command}
+use Rattle.tf_command.specs.declared.command.Parts.{Parts}
 use Rattle.tf_command.specs.declared.command.Op.{Op}
 use Rattle.tf_command.specs.declared.command.Op.TheVariants as op
 
@@ -58,5 +58,6 @@ IsFormedOp (op.Search index size after) = IsShort index × (1 ≤ size) × (size
 IsFormedOp (op.Stats id) = IsShort id
 IsFormedOp (op.Preview config) = IsObject config
 
-abbrev pub IsFormed : Command → Type 0
-IsFormed command = (command.lane ≤ 7) × IsFormedOp command.op
+-- the parts of a command have their forms
+abbrev pub IsFormed : Parts → Type 0
+IsFormed parts = (parts.lane ≤ 7) × IsFormedOp parts.op

@@ -1,16 +1,16 @@
-// The command that a line's members make.
+// The parts of the command that a line's members make.
 ghost use Rattle.std.specs.Prelude.{◌≡◌};
 ghost use Rattle.tf_command.specs.Commands as spec;
 
-use crate::command::{Command, Op};
+use crate::command::{Op, Parts};
 use crate::members::Members;
 use crate::table::Name;
 
-/// The command of an op, by what its members say.
-pub(crate) fn command_from(line: u64, name: Name, said: Members) -> Command
-    ensures { result ≡ spec.command_from line name said }
+/// The parts of the command of an op, by what its members say.
+pub(crate) fn parts_from(line: u64, name: Name, said: Members) -> Parts
+    ensures { result ≡ spec.parts_from line name said }
 {
-    Command {
+    Parts {
         line,
         lane: said.lane,
         at_ms: said.at_ms,

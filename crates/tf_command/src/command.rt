@@ -1,10 +1,56 @@
 // Commands, and why a line is none.
+ghost use Rattle.std.specs.Prelude.{◌≡◌};
+ghost use Rattle.tf_command.specs.Formed.{IsFormed};
+
 use std::alloc::{AllocError, AllocFailed};
+use std::marker::Model;
 use tf_model::{List, Text, Tree};
 
-/// A line that was read whole.
+/// A line that was read whole. Contracts see its parts.
+///
+/// It keeps in its type that its parts have their forms: the lane is from 0 to 7, the trees are ones that a line can be, and no
+/// text or printed tree is longer than a line.
 #[derive(Debug, Drop)]
 pub struct Command {
+    parts: Parts,
+}
+
+impl Model for Command {
+    ghost use Rattle.std.specs.Coded.{codes};
+    ghost use Rattle.tf_command.specs.Formed.{IsFormed};
+    ghost use Rattle.tf_command.specs.declared.command.Parts.{Parts};
+    ghost use Rattle.tf_model.specs.contracts.tree.Tree as tree;
+
+    ghost Value = { Parts };
+
+    ghost coded = { Prim.hlevel (codes, tree.the_row.coded) };
+
+    ghost view = { λ command. command.parts };
+
+    ghost invariant = { λ command. IsFormed command.parts };
+}
+
+impl Command {
+    /// The command of parts that have their forms.
+    pub fn of(parts: Parts) -> Command
+        requires { IsFormed parts }
+        ensures { result ≡ parts }
+    {
+        Command { parts }
+    }
+
+    /// Its parts, which have their forms.
+    pub fn parts(&self) -> &Parts
+        ensures parts { result.now ≡ self.now }
+        ensures formed { IsFormed result.now }
+    {
+        &self.parts
+    }
+}
+
+/// The parts of a command.
+#[derive(Debug, Drop)]
+pub struct Parts {
     /// The number of the line in its script.
     pub line: u64,
     /// The lane that the line asks for, from 0 to 7; 0 where it asks for none.

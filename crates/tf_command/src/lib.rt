@@ -11,9 +11,6 @@ mod members;
 mod read;
 mod table;
 
-pub use command::{Command, LineError, Op};
+pub use command::{Command, LineError, Op, Parts};
 pub use line::{is_blank, lane_of};
 pub use read::read_command;
-
-#[cfg(test)]
-mod tests;

@@ -1,12 +1,12 @@
 // Reading of a command.
 ghost use Rattle.tf_command.specs.Commands as spec;
 ghost use Rattle.std.specs.Prelude.{◌≡◌, IfOk, None, Some};
-ghost use Rattle.tf_command.specs.Formed.{AreKept, IsFormed, IsKept};
+ghost use Rattle.tf_command.specs.Formed.{AreKept, IsKept};
 ghost use Rattle.tf_command.specs.Table as table;
 ghost use Rattle.tf_command.specs.declared.command.LineError.TheVariants as error;
 ghost use Rattle.tf_model.specs.Trees.{members_in};
 
-use crate::build::command_from;
+use crate::build::parts_from;
 use crate::checks::{first_absent, first_bad, member_at};
 use crate::command::{Command, LineError};
 use crate::members::placed;
@@ -29,9 +29,6 @@ pub(crate) const MAX_LINE: usize = 1_048_576;
 pub fn read_command(alloc: Global, line: &[u8], number: u64) -> Result<Command, LineError>
     // A command and each refusal come exactly where they are what the line is.
     ensures reading { spec.Answers (spec.command_of number line.now) result }
-    // The members are of their forms, the trees are ones that a line can be, and no text or printed tree is longer
-    // than a line.
-    ensures formed { IfOk result IsFormed }
 {
     if line.len() > MAX_LINE {
         return Err(LineError::LineTooLong {
@@ -50,7 +47,6 @@ pub fn read_command(alloc: Global, line: &[u8], number: u64) -> Result<Command, 
 fn command_in(alloc: Global, number: u64, tree: Tree) -> Result<Command, LineError>
     requires { IsKept tree }
     ensures reading { spec.Answers (spec.if_object number (members_in tree)) result }
-    ensures formed { IfOk result IsFormed }
 {
     match tree.into_object() {
         None => Err(LineError::BadJson),
@@ -65,7 +61,6 @@ fn command_of_members(
 ) -> Result<Command, LineError>
     requires { AreKept members }
     ensures reading { spec.Answers (spec.if_known number members (spec.op_in members)) result }
-    ensures formed { IfOk result IsFormed }
 {
     match op_in(members.as_slice()) {
         None => Err(LineError::UnknownOp),
@@ -87,7 +82,6 @@ fn command_by(
 ) -> Result<Command, LineError>
     requires { AreKept members }
     ensures reading { spec.Answers (spec.if_known number members (Some name)) result }
-    ensures formed { IfOk result IsFormed }
 {
     if let Some(field) = first_absent(members.as_slice(), required(name)) {
         return Err(missing(alloc, field));
@@ -109,10 +103,10 @@ fn made(
     requires complete { spec.first_absent members (table.required name) ≡ None }
     requires good { spec.first_bad name members ≡ None }
     requires lines { AreKept members }
-    ensures command { IfOk result (λ command. command ≡ spec.command_from number name (spec.members_of members)) }
-    ensures formed { IfOk result IsFormed }
+    ensures command { IfOk result (λ command. command ≡ spec.parts_from number name (spec.members_of members)) }
 {
-    Ok(command_from(number, name, placed(alloc, members)?))
+    let parts = parts_from(number, name, placed(alloc, members)?);
+    Ok(Command::of(parts))
 }
 
 fn missing(alloc: Global, field: &str) -> LineError

@@ -16,3 +16,5 @@ pub mod PutAnswers
 pub mod TakenEntries
 pub mod AskedTaken
 pub mod BulkLaws
+pub mod SameAnswers
+pub mod ToldAlone

@@ -1,5 +1,5 @@
 -- How a transform stands that is started.
-use Rattle.std.proofs.Common.{◌≡◌, ℕ, cond, List, [], ◌∷◌, ◌++◌, Option, Some, None, sym, ap, ◌∙◌}
+use Rattle.std.proofs.Common.{◌≡◌, ℕ, cond, List, [], ◌∷◌, ◌++◌, Option, Some, None, refl, sym, ap, ◌∙◌}
 use Rattle.std.specs.Prelude.{nat_lt, reverse}
 use Rattle.tf_model.specs.declared.doc.Doc.{Doc}
 use Rattle.tf_model.specs.declared.entry.Entry.{Entry}
@@ -54,3 +54,12 @@ by_tells line count entries past id docs t (Some l) some is tells = life_told li
 pub by_none : (line count : ℕ) (entries past : List Entry) (id : List ℕ) (docs : List Doc) → kinds entries ≡ kind.Start id ∷ [] → Tells docs None (life id (read past))
     → reply.Task line count id state.Stopped 0 ≡ task line count id (life id (read (reverse entries ++ past)))
 by_none line count entries past id docs is tells = none_told line count entries past id is (no_life docs (life id (read past)) tells)
+
+-- ---- how a transform stands
+pub none_stands : (line count : ℕ) (id : List ℕ) (docs : List Doc) (o : Option Life) → Tells docs None o → reply.Task line count id state.Stopped 0 ≡ task line count id o
+none_stands line count id docs None tells = refl
+none_stands line count id docs (Some l) tells = absurd tells
+
+pub one_stands : (line count : ℕ) (id : List ℕ) (docs : List Doc) (t : Transform) (o : Option Life) → Tells docs (Some t) o → reply.Task line count id t.state t.finished ≡ task line count id o
+one_stands line count id docs t None tells = absurd tells
+one_stands line count id docs t (Some l) tells = λ i. reply.Task line count id (tells.state i) (tells.finished i)

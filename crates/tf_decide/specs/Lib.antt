@@ -4,3 +4,4 @@ pub mod Bulk
 pub mod Ready
 pub mod Replying
 pub mod Rows
+pub mod Moments

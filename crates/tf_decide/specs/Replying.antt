@@ -1,6 +1,7 @@
 -- The reply to a command, by what was asked for and the past after it.
-use Rattle.std.specs.Prelude.{ℕ, ℤ, Bool, true, false, List, [], ◌++◌, length, map, reverse, take, Option, Some, None}
+use Rattle.std.specs.Prelude.{◌≡◌, ℕ, ℤ, Bool, true, false, List, [], ◌++◌, length, map, reverse, take, Option, Some, None}
 use Rattle.std.specs.List.{filter, find}
+use Rattle.std.specs.Option.{option_map}
 use Rattle.tf_model.specs.declared.config.Config.{Config}
 use Rattle.tf_model.specs.declared.config.Shape.{Shape}
 use Rattle.tf_model.specs.declared.config.Shape.TheVariants as shape
@@ -12,7 +13,7 @@ use Rattle.tf_model.specs.declared.tree.Tree.{Tree}
 use Rattle.tf_model.specs.declared.tree.Tree.TheVariants as tree
 use Rattle.tf_model.specs.declared.value.Key.{Key}
 use Rattle.tf_model.specs.Changed.{is_after}
-use Rattle.tf_command.specs.declared.command.Command.{Command}
+use Rattle.tf_command.specs.declared.command.Parts.{Parts}
 use Rattle.tf_command.specs.declared.command.Op.{Op}
 use Rattle.tf_command.specs.declared.command.Op.TheVariants as op
 use Rattle.tf_reply.specs.declared.replies.Hit.{Hit}
@@ -68,6 +69,10 @@ abbrev pub found : ℕ → ℕ → Search → List Entry → Option PutTransform
 found line count s now None = reply.Found line count [] 0
 found line count s now (Some p) = found_rows line count s p.config (rows_of (life p.id (read now)))
 
+-- the rows that a search shows by a past
+abbrev pub found_now : ℕ → List Entry → Search → Reply
+found_now line now s = found line (length now) s now (find (is_into s.dest) (transforms now))
+
 -- the reply to a line by the pasts before and after it
 abbrev pub reply_by : ℕ → List Entry → List Entry → Answer → Reply
 reply_by line before now answer.Created = reply.Created line (length now)
@@ -75,18 +80,44 @@ reply_by line before now (answer.Written seq shard) = reply.Written line (length
 reply_by line before now (answer.Tried items) = reply.Bulk line (length now) (length before) items
 reply_by line before now (answer.Started id) = task line (length now) id (life id (read now))
 reply_by line before now answer.Settled = reply.Settled line (length now)
-reply_by line before now (answer.Shown s) = found line (length now) s now (find (is_into s.dest) (transforms now))
+reply_by line before now (answer.Shown s) = found_now line now s
 reply_by line before now (answer.Refused r) = reply.Refused line (length now) r
 
 -- the reply to a command that is done after a past by an actor, where a moment is given, when its entries are there
-abbrev pub replied : List Entry → ℕ → ℤ → Command → Reply
+abbrev pub replied : List Entry → ℕ → ℤ → Parts → Reply
 replied past actor given command = let a = asked past actor given command.op in reply_by command.line past (past_after past a) a.answer
 
 -- ---- after moves
+abbrev pub is_refused : Answer → Bool
+is_refused (answer.Refused r) = true
+is_refused _ = false
+
+abbrev pub shown_whole : List ℕ → ℕ → Option Tree → Option Answer
+shown_whole name size None = Some (answer.Shown (record { dest = name; after = None; size = size }))
+shown_whole name size (Some array) = None
+
+-- What is told of a command that is not refused, where the command alone tells it. It does not where documents are written,
+-- whose places the history before tells, nor where rows above a key are shown.
+abbrev pub told_alone : Op → Option Answer
+told_alone (op.CreateIndex name mappings shards stamp quick) = Some answer.Created
+told_alone (op.PutTransform id config) = Some answer.Created
+told_alone (op.Start id) = Some (answer.Started id)
+told_alone op.Settle = Some answer.Settled
+told_alone (op.Search name size after) = shown_whole name size after
+told_alone _ = None
+
+-- a command is not refused after a past, whoever gives it and when
+abbrev pub IsAccepted : List Entry → Op → Type 0
+IsAccepted past o = (actor : ℕ) (given : ℤ) → is_refused (asked past actor given o).answer ≡ false
+
+-- the reply to such a command by the past now
+abbrev pub reply_alone : ℕ → List Entry → Op → Option Reply
+reply_alone line now o = option_map (reply_by line now now) (told_alone o)
+
 abbrev pub is_settle : Op → Bool
 is_settle op.Settle = true
 is_settle _ = false
 
 -- the reply to a command when moves were made: what it answers is told by the past before it, and what is shown by the past now
-abbrev pub replied_after : List Entry → List Entry → ℕ → ℤ → Command → Reply
+abbrev pub replied_after : List Entry → List Entry → ℕ → ℤ → Parts → Reply
 replied_after before now actor given command = reply_by command.line before now (asked before actor given command.op).answer

@@ -20,10 +20,10 @@ use tf_model::OutOfMemory;
 
 /// What a command asks for after the history of a core, by an actor, where a moment is given. The other commands are not
 /// built.
-pub fn ask(alloc: Global, core: &Core, op: Op, given: &Given) -> Result<Asked, OutOfMemory>
-    requires formed { IsFormedOp op }
+pub fn ask(alloc: Global, core: &Core, op: &Op, given: &Given) -> Result<Asked, OutOfMemory>
+    requires formed { IsFormedOp op.now }
     requires actor { given.now.actor ≤ 15 }
-    ensures asked { IfOk result (λ asked. asked ≡ spec.asked (reverse core.now.history) given.now.actor given.now.at_ms op) }
+    ensures asked { IfOk result (λ asked. asked ≡ spec.asked (reverse core.now.history) given.now.actor given.now.at_ms op.now) }
     ensures ready { IfOk result (IsReady (reverse core.now.history)) }
 {
     match op {
@@ -33,13 +33,13 @@ pub fn ask(alloc: Global, core: &Core, op: Op, given: &Given) -> Result<Asked, O
             shards,
             stamp,
             ..
-        } => ask_index(alloc, core, index, &mappings, shards, stamp, given),
+        } => ask_index(alloc, core, index, mappings, *shards, stamp, given),
         Op::Index { index, id, doc } => { ask_index_document(alloc, core, index, id, doc, given) }
         Op::Bulk { index, docs } => ask_bulk(alloc, core, index, docs, given),
-        Op::PutTransform { id, config } => ask_put(alloc, core, id, &config, given),
+        Op::PutTransform { id, config } => ask_put(alloc, core, id, config, given),
         Op::Start { id } => ask_start(alloc, core, id, given),
         Op::Settle => Ok(told(alloc, Answer::Settled)),
-        Op::Search { index, size, after } => ask_search(alloc, core, index, size, after),
+        Op::Search { index, size, after } => ask_search(alloc, core, index, *size, after),
         _ => Ok(unsupported(alloc)),
     }
 }

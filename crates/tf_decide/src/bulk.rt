@@ -25,11 +25,45 @@ use crate::making::refused;
 use std::alloc::Global;
 use std::collections::BTreeMap;
 use tf_core::{Core, Index};
-use tf_model::{Entry, List, OutOfMemory, Text, Tree};
+use tf_model::{Entry, List, OutOfMemory, Text, Tree, copy_tree};
 use tf_reply::{Item, Refusal};
 
 /// Documents go into an index in their order, each after those before it.
 pub fn ask_bulk(
+    alloc: Global,
+    core: &Core,
+    name: &Text,
+    docs: &List<(Text, Tree)>,
+    given: &Given,
+) -> Result<Asked, OutOfMemory>
+    requires docs { AreDocuments docs.now }
+    requires actor { given.now.actor ≤ 15 }
+    ensures asked { IfOk result (λ asked. asked ≡ spec.asked_bulk (reverse core.now.history) given.now.actor given.now.at_ms name.now docs.now) }
+    ensures ready { IfOk result (IsReady (reverse core.now.history)) }
+{
+    let name = name.copy(alloc)?;
+    let docs = copies(alloc, docs.as_slice())?;
+    bulk_asked(alloc, core, name, docs, given)
+}
+
+fn copies(alloc: Global, docs: &[(Text, Tree)]) -> Result<List<(Text, Tree)>, OutOfMemory>
+    ensures { IfOk result (λ copies. copies ≡ docs.now) }
+{
+    let mut copies = List::new(alloc);
+    for document in docs {
+        copies.push(copy(alloc, document)?)?;
+    }
+    Ok(copies)
+}
+
+fn copy(alloc: Global, document: &(Text, Tree)) -> Result<(Text, Tree), OutOfMemory>
+    ensures { IfOk result (λ copy. copy ≡ document.now) }
+{
+    Ok((document.0.copy(alloc)?, copy_tree(alloc, &document.1)?))
+}
+
+// These documents go into an index.
+fn bulk_asked(
     alloc: Global,
     core: &Core,
     name: Text,

@@ -1,7 +1,6 @@
 // What a command does.
 ghost use Rattle.std.specs.Prelude.{◌≡◌, ◌≤◌, IfOk, reverse};
 ghost use Rattle.std.specs.List.{AllByRecursion};
-ghost use Rattle.tf_command.specs.Formed.{IsFormed};
 ghost use Rattle.tf_event.specs.Entries.{FitsEntry};
 ghost use Rattle.tf_event.specs.declared.grammar.Grammar.TheVariants.{First};
 ghost use Rattle.tf_core.specs.Legal.{AreTakenAfter};
@@ -28,27 +27,26 @@ pub struct Decision {
 }
 
 /// What a command does after the history of a core, by an actor, where a moment is given, in milliseconds since 1970. A
-/// document is moved into its entry.
+/// document is copied into its entry.
 pub fn decide(
     alloc: Global,
     core: &Core,
-    command: Command,
+    command: &Command,
     actor: u8,
     now: i64,
 ) -> Result<Decision, OutOfMemory>
-    requires formed { IsFormed command }
     requires actor { actor ≤ 15 }
-    ensures entries { IfOk result (λ d. d.entries ≡ (asked (reverse core.now.history) actor now command.op).entries) }
-    ensures reply { IfOk result (λ d. d.reply ≡ replied (reverse core.now.history) actor now command) }
+    ensures entries { IfOk result (λ d. d.entries ≡ (asked (reverse core.now.history) actor now command.now.op).entries) }
+    ensures reply { IfOk result (λ d. d.reply ≡ replied (reverse core.now.history) actor now command.now) }
     // Each of the entries is taken after those before it, and has a spelling.
     ensures taken { IfOk result (λ d. AreTakenAfter core.now.history d.entries) }
     ensures spelled { IfOk result (λ d. AllByRecursion (FitsEntry First) d.entries) }
 {
     core.is_taken();
-    let Command { line, op, .. } = command;
+    let parts = command.parts();
     let given = given_by(actor, now);
-    let asked = ask(alloc, core, op, &given)?;
-    decided(alloc, core, line, asked)
+    let asked = ask(alloc, core, &parts.op, &given)?;
+    decided(alloc, core, parts.line, asked)
 }
 
 // What is asked for, with its reply.

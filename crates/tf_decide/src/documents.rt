@@ -23,13 +23,34 @@ use std::alloc::Global;
 use tf_core::{Core, Index};
 use tf_json::line_is_read;
 use tf_mapping::{read_doc, route, stamped};
-use tf_model::{Entry, Kind, OutOfMemory, Text, Tree, is_index_name};
+use tf_model::{Entry, Kind, OutOfMemory, Text, Tree, copy_tree, is_index_name};
 use tf_reply::{Limit, Refusal, doc_refusal};
 
 const MOST_DOCUMENTS: u64 = 2_147_483_648;
 
 /// A document goes into an index, and not into a destination.
 pub fn ask_index_document(
+    alloc: Global,
+    core: &Core,
+    name: &Text,
+    id: &Text,
+    doc: &Tree,
+    given: &Given,
+) -> Result<Asked, OutOfMemory>
+    requires id { IsDocumentId id.now }
+    requires doc { IsObject doc.now }
+    requires actor { given.now.actor ≤ 15 }
+    ensures asked { IfOk result (λ asked. asked ≡ spec.asked_written (reverse core.now.history) given.now.actor given.now.at_ms name.now id.now doc.now) }
+    ensures ready { IfOk result (IsReady (reverse core.now.history)) }
+{
+    let name = name.copy(alloc)?;
+    let id = id.copy(alloc)?;
+    let doc = copy_tree(alloc, doc)?;
+    document_asked(alloc, core, name, id, doc, given)
+}
+
+// This document goes into an index.
+fn document_asked(
     alloc: Global,
     core: &Core,
     name: Text,

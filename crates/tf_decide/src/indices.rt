@@ -14,7 +14,7 @@ use crate::making::{entry_after, made, refused, text_is_utf8};
 use std::alloc::Global;
 use tf_core::Core;
 use tf_mapping::read_mapping;
-use tf_model::{Kind, Mapping, OutOfMemory, Text, Tree, is_index_name};
+use tf_model::{Kind, Mapping, OutOfMemory, Text, Tree, TryCopy, is_index_name};
 use tf_reply::{Limit, Refusal, mapping_refusal};
 
 const MOST_INDICES: u64 = 64;
@@ -23,6 +23,27 @@ const MOST_SHARDS: i128 = 16;
 
 /// An index is created.
 pub fn ask_index(
+    alloc: Global,
+    core: &Core,
+    name: &Text,
+    tree: &Tree,
+    shards: i128,
+    stamp: &Option<Text>,
+    given: &Given,
+) -> Result<Asked, OutOfMemory>
+    requires name { IsShort name.now }
+    requires stamp { IfSome stamp.now IsShort }
+    requires actor { given.now.actor ≤ 15 }
+    ensures asked { IfOk result (λ asked. asked ≡ spec.asked_index (reverse core.now.history) given.now.actor given.now.at_ms name.now tree.now shards stamp.now) }
+    ensures ready { IfOk result (IsReady (reverse core.now.history)) }
+{
+    let name = name.copy(alloc)?;
+    let stamp = stamp.try_copy(alloc)?;
+    index_asked(alloc, core, name, tree, shards, stamp, given)
+}
+
+// An index of this name is created.
+fn index_asked(
     alloc: Global,
     core: &Core,
     name: Text,

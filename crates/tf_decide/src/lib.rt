@@ -11,15 +11,15 @@ mod finding;
 mod giving;
 mod hits;
 mod indices;
+mod laws;
 mod making;
 mod moved;
 mod replying;
 mod rows;
 mod standing;
 mod starting;
-#[cfg(test)]
-mod tests;
 mod transforms;
 
 pub use decision::{Decision, decide};
+pub use laws::no_refusal_depends_on_the_moment;
 pub use moved::reply;

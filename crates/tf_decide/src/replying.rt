@@ -81,7 +81,8 @@ fn started(core: &Core, line: u64, no: u64, entries: &List<Entry>, id: Text) -> 
     }
 }
 
-fn task(line: u64, no: u64, id: Text, state: State, checkpoint: u64) -> Reply
+/// How a transform stands, as a reply.
+pub fn task(line: u64, no: u64, id: Text, state: State, checkpoint: u64) -> Reply
     ensures { result ≡ reply.Task line no id state checkpoint }
 {
     Reply::Task {
@@ -104,8 +105,8 @@ fn started_state(running: bool) -> State
     }
 }
 
-// The rows of a destination that a search shows.
-fn shown(
+/// The rows of a destination that a search shows.
+pub fn shown(
     alloc: Global,
     core: &Core,
     line: u64,

@@ -16,11 +16,26 @@ use tf_reply::Refusal;
 pub fn ask_search(
     alloc: Global,
     core: &Core,
+    name: &Text,
+    size: u32,
+    after: &Option<Tree>,
+) -> Result<Asked, OutOfMemory>
+    ensures asked { IfOk result (λ asked. asked ≡ spec.asked_search (reverse core.now.history) name.now size after.now) }
+    ensures ready { IfOk result (IsReady (reverse core.now.history)) }
+{
+    let name = name.copy(alloc)?;
+    search_asked(alloc, core, name, size, after)
+}
+
+// Rows of the destination of this name are searched.
+fn search_asked(
+    alloc: Global,
+    core: &Core,
     name: Text,
     size: u32,
-    after: Option<Tree>,
+    after: &Option<Tree>,
 ) -> Result<Asked, OutOfMemory>
-    ensures asked { IfOk result (λ asked. asked ≡ spec.asked_search (reverse core.now.history) name size after) }
+    ensures asked { IfOk result (λ asked. asked ≡ spec.asked_search (reverse core.now.history) name size after.now) }
     ensures ready { IfOk result (IsReady (reverse core.now.history)) }
 {
     if !may_be_searched(core, &name) {
@@ -46,14 +61,14 @@ fn search_by(
     name: Text,
     size: u32,
     config: &Config,
-    after: Option<Tree>,
+    after: &Option<Tree>,
 ) -> Result<Asked, OutOfMemory>
-    ensures asked { IfOk result (λ asked. asked ≡ spec.search_by (reverse core.now.history) name size config.now after) }
+    ensures asked { IfOk result (λ asked. asked ≡ spec.search_by (reverse core.now.history) name size config.now after.now) }
     ensures ready { IfOk result (IsReady (reverse core.now.history)) }
 {
     match after {
         None => Ok(shows(alloc, name, size, None)),
-        Some(array) => match key_after(alloc, core, config, &array)? {
+        Some(array) => match key_after(alloc, core, config, array)? {
             None => Ok(refused(alloc, Refusal::BadAfter)),
             key => Ok(shows(alloc, name, size, key)),
         },

@@ -15,7 +15,18 @@ use tf_model::{Kind, OutOfMemory, State, Text, is_transform_id};
 use tf_reply::Refusal;
 
 /// A transform is started.
-pub fn ask_start(alloc: Global, core: &Core, id: Text, given: &Given) -> Result<Asked, OutOfMemory>
+pub fn ask_start(alloc: Global, core: &Core, id: &Text, given: &Given) -> Result<Asked, OutOfMemory>
+    requires id { IsShort id.now }
+    requires actor { given.now.actor ≤ 15 }
+    ensures asked { IfOk result (λ asked. asked ≡ spec.asked_start (reverse core.now.history) given.now.actor given.now.at_ms id.now) }
+    ensures ready { IfOk result (IsReady (reverse core.now.history)) }
+{
+    let id = id.copy(alloc)?;
+    start_asked(alloc, core, id, given)
+}
+
+// The transform of this id is started.
+fn start_asked(alloc: Global, core: &Core, id: Text, given: &Given) -> Result<Asked, OutOfMemory>
     requires id { IsShort id }
     requires actor { given.now.actor ≤ 15 }
     ensures asked { IfOk result (λ asked. asked ≡ spec.asked_start (reverse core.now.history) given.now.actor given.now.at_ms id) }

@@ -22,6 +22,24 @@ const MOST_TRANSFORMS: u64 = 64;
 pub fn ask_put(
     alloc: Global,
     core: &Core,
+    id: &Text,
+    config: &Tree,
+    given: &Given,
+) -> Result<Asked, OutOfMemory>
+    requires id { IsShort id.now }
+    requires config { IsObject config.now }
+    requires actor { given.now.actor ≤ 15 }
+    ensures asked { IfOk result (λ asked. asked ≡ spec.asked_put (reverse core.now.history) given.now.actor given.now.at_ms id.now config.now) }
+    ensures ready { IfOk result (IsReady (reverse core.now.history)) }
+{
+    let id = id.copy(alloc)?;
+    put_asked(alloc, core, id, config, given)
+}
+
+// A transform of this id is put.
+fn put_asked(
+    alloc: Global,
+    core: &Core,
     id: Text,
     config: &Tree,
     given: &Given,

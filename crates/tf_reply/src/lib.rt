@@ -26,6 +26,3 @@ pub use faults::{
 pub use lines::{reply_line, write_reply};
 pub use replies::{Checkpoint, Hit, Item, Reply, Running, Stats};
 pub use sources::pivot_source;
-
-#[cfg(test)]
-mod tests;

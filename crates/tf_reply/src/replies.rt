@@ -76,7 +76,7 @@ pub enum Reply {
 
 impl Reply {
     /// The number of the line.
-    pub fn line(&self) -> u64
+    pub(crate) fn line(&self) -> u64
         ensures { result ≡ line_of self.now }
     {
         match self {
@@ -94,7 +94,7 @@ impl Reply {
     }
 
     /// How many entries the history had when the reply was made.
-    pub fn no(&self) -> u64
+    pub(crate) fn no(&self) -> u64
         ensures { result ≡ no_of self.now }
     {
         match self {

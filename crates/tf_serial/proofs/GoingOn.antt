@@ -12,9 +12,9 @@ use Rattle.tf_history.specs.Histories.{AllRight}
 use Rattle.tf_core.specs.Legal.{read}
 use Rattle.tf_store.specs.Answers.{counted, history_after}
 use Rattle.tf_store.specs.declared.error.StoreError.{StoreError}
-use Rattle.tf_store.specs.Words.{disk_of, found_of, history_of, opened_at, opened_with}
+use Rattle.tf_store.specs.Words.{broken_at, disk_of, found_of, history_of, opened_at, opened_with}
 use Rattle.tf_store.specs.declared.state.Store.{Store}
-use Rattle.tf_serial.specs.Parts.{GoesOn, IsRightEntry, Runs}
+use Rattle.tf_serial.specs.Parts.{GoesOn, IsRightEntry, Runs, StaysBroken}
 use Rattle.tf_serial.proofs.RightLines.{IsQuietEntry, quiet_kind}
 use Rattle.tf_serial.proofs.SpelledPasts.{all_reverse}
 use Rattle.tf_serial.proofs.Prefixes.{prefix_self, prefix_through}
@@ -84,26 +84,28 @@ module _ {D : Type 0} {g : Ghosts D} (m : Meaning D) where
     opened_count = q.opened_count ∙ p.opened_count;
     found = q.found ∙ p.found;
     later = omega (arith, p.later, q.later);
+    stuck = λ count is. let here = p.stuck count is in let there = q.stuck count here.0 in (there.0, there.1 ∙ here.1);
   }
 
   -- the history goes on, and all else is as it was
   runs_on : (old new : Store D g) → GoesOn (history_of old) (history_of new) → (opened_at new ≡ opened_at old) × (opened_with new ≡ opened_with old) → found_of new ≡ found_of old
-      → m.faults (disk_of old) ≤ m.faults (disk_of new) → Runs m old new
-  runs_on old new history opened found later = record { history = history; opened = opened.0; opened_count = opened.1; found = found; later = later }
+      → m.faults (disk_of old) ≤ m.faults (disk_of new) → StaysBroken (broken_at old) (history_of old) (broken_at new) (history_of new) → Runs m old new
+  runs_on old new history opened found later stuck = record { history = history; opened = opened.0; opened_count = opened.1; found = found; later = later; stuck = stuck }
 
   pub runs_itself : (old : Store D g) → Runs m old old
-  runs_itself old = runs_on old old (goes_itself (history_of old)) (refl, refl) refl (omega arith)
+  runs_itself old = runs_on old old (goes_itself (history_of old)) (refl, refl) refl (omega arith) (λ count is. (is, refl))
 
   -- one entry more, where it is right
   pub runs_entry : (old new : Store D g) (e : Entry) → history_of new ≡ history_of old ++ e ∷ [] → IsRightEntry (reverse (history_of old)) e → (opened_at new ≡ opened_at old) × (opened_with new ≡ opened_with old)
-      → found_of new ≡ found_of old → m.faults (disk_of old) ≤ m.faults (disk_of new) → Runs m old new
+      → found_of new ≡ found_of old → m.faults (disk_of old) ≤ m.faults (disk_of new) → StaysBroken (broken_at old) (history_of old) (broken_at new) (history_of new) → Runs m old new
   runs_entry old new e grown right = runs_on old new (subst (λ now. GoesOn (history_of old) now) (sym grown) (goes_entry (history_of old) e right))
 
   -- the same history
   pub runs_same : (old new : Store D g) → history_of new ≡ history_of old → (opened_at new ≡ opened_at old) × (opened_with new ≡ opened_with old) → found_of new ≡ found_of old
-      → m.faults (disk_of old) ≤ m.faults (disk_of new) → Runs m old new
+      → m.faults (disk_of old) ≤ m.faults (disk_of new) → StaysBroken (broken_at old) (history_of old) (broken_at new) (history_of new) → Runs m old new
   runs_same old new same = runs_on old new (subst (λ now. GoesOn (history_of old) now) (sym same) (goes_itself (history_of old)))
 
   pub runs_submit : {X : Type 0} (r : Result X StoreError) (old new : Store D g) (number : ℕ) (es : List Entry) → history_of new ≡ history_after (history_of old) es (counted number r) → AllByRecursion IsQuietEntry es
-      → (opened_at new ≡ opened_at old) × (opened_with new ≡ opened_with old) → found_of new ≡ found_of old → m.faults (disk_of old) ≤ m.faults (disk_of new) → Runs m old new
+      → (opened_at new ≡ opened_at old) × (opened_with new ≡ opened_with old) → found_of new ≡ found_of old → m.faults (disk_of old) ≤ m.faults (disk_of new)
+      → StaysBroken (broken_at old) (history_of old) (broken_at new) (history_of new) → Runs m old new
   runs_submit r old new number es is quiet = runs_on old new (goes_by r number (history_of old) es (history_of new) is quiet)

@@ -17,3 +17,4 @@ pub mod LinesDone
 pub mod Commands
 pub mod LinesRead
 mod Examples
+pub mod Within

@@ -4,7 +4,7 @@ use Rattle.std.specs.Prelude.{IsSome, Result, if◌then◌else◌}
 use Rattle.tf_model.specs.declared.entry.Entry.{Entry}
 use Rattle.tf_command.specs.Commands.{Answers, command_of}
 use Rattle.tf_command.specs.Lines.{is_blank}
-use Rattle.tf_command.specs.declared.command.Command.{Command}
+use Rattle.tf_command.specs.declared.command.Parts.{Parts}
 use Rattle.tf_command.specs.declared.command.LineError.{LineError}
 use Rattle.tf_command.specs.declared.command.LineError.TheVariants as line_error
 use Rattle.tf_reply.specs.Answers.{reply_line}
@@ -13,7 +13,7 @@ use Rattle.tf_serial.specs.Frames.{IsOfLine, IsOfLineBy, IsOfReading}
 use Rattle.tf_serial.specs.Script.{after_line, after_reading, reply_to, reply_to_reading}
 
 -- a refusal that is told is what the line is
-pub answered : (wanted : Result Command LineError) (error : LineError) → IsSome (line_refusal error) → Answers wanted (Err error) → wanted ≡ Err error
+pub answered : (wanted : Result Parts LineError) (error : LineError) → IsSome (line_refusal error) → Answers wanted (Err error) → wanted ≡ Err error
 answered wanted line_error.Memory some is = absurd (let wrong : false ≡ true = some in cc)
 answered wanted _ some is = sym is
 

@@ -7,7 +7,7 @@ use mathlib.Core.List.{IsPrefix}
 use Rattle.tf_model.specs.declared.entry.Entry.{Entry}
 use Rattle.tf_command.specs.Commands.{command_of}
 use Rattle.tf_command.specs.Lines.{is_blank}
-use Rattle.tf_command.specs.declared.command.Command.{Command}
+use Rattle.tf_command.specs.declared.command.Parts.{Parts}
 use Rattle.tf_command.specs.declared.command.LineError.{LineError}
 use Rattle.tf_serial.specs.Moves.{next_move, moves, pass, settled}
 use Rattle.tf_decide.specs.Replying.{is_settle}
@@ -80,12 +80,12 @@ command_by : (past now : List Entry) (given : ℤ) (b : Bool) → IsPrefix (reve
 command_by past now given true p = prefix_through (reverse past) (reverse now) (reverse (settled given now)) p (settling_begins given now)
 command_by past now given false p = p
 
-command_begins : (past : List Entry) (command : Command) → IsPrefix (reverse past) (reverse (after_command past command))
+command_begins : (past : List Entry) (command : Parts) → IsPrefix (reverse past) (reverse (after_command past command))
 command_begins past command =
     let es : List Entry = (asked past command).entries in
     command_by past (reverse es ++ past) (given past command) (is_settle command.op) (es, sym (reverse-append (reverse es) past ∙ ap (λ l. reverse past ++ l) (reverse-reverse es)))
 
-reading_begins : (past : List Entry) (r : Result Command LineError) → IsPrefix (reverse past) (reverse (after_reading past r))
+reading_begins : (past : List Entry) (r : Result Parts LineError) → IsPrefix (reverse past) (reverse (after_reading past r))
 reading_begins past (Ok command) = command_begins past command
 reading_begins past (Err error) = prefix_self (reverse past)
 
@@ -97,10 +97,10 @@ line_by past now false p = p
 pub line_goes_on : (past : List Entry) (number : ℕ) (line : List ℕ) → IsPrefix (reverse past) (reverse (after_line past number line))
 line_goes_on past number line = line_by past (after_reading past (command_of number line)) (is_blank line) (reading_begins past (command_of number line))
 
-pub command_goes_on : (history : List Entry) (command : Command) → IsPrefix history (reverse (after_command (reverse history) command))
+pub command_goes_on : (history : List Entry) (command : Parts) → IsPrefix history (reverse (after_command (reverse history) command))
 command_goes_on history command = history_begins history (reverse (after_command (reverse history) command)) (command_begins (reverse history) command)
 
-pub reading_goes_on : (history : List Entry) (r : Result Command LineError) → IsPrefix history (reverse (after_reading (reverse history) r))
+pub reading_goes_on : (history : List Entry) (r : Result Parts LineError) → IsPrefix history (reverse (after_reading (reverse history) r))
 reading_goes_on history r = history_begins history (reverse (after_reading (reverse history) r)) (reading_begins (reverse history) r)
 
 -- a past begins the one behind lines

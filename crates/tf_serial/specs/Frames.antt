@@ -3,7 +3,7 @@ use Rattle.std.specs.Prelude.{◌≡◌, ◌⊎◌, ℕ, ℤ, ◌+◌, Bool, tru
 use Rattle.tf_model.specs.declared.entry.Entry.{Entry}
 use Rattle.tf_command.specs.Commands.{command_of}
 use Rattle.tf_command.specs.Lines.{is_blank}
-use Rattle.tf_command.specs.declared.command.Command.{Command}
+use Rattle.tf_command.specs.declared.command.Parts.{Parts}
 use Rattle.tf_command.specs.declared.command.LineError.{LineError}
 use Rattle.tf_core.specs.Listing.{ids_after}
 use Rattle.tf_serial.specs.Moves.{moves, next_move, pass, passes}
@@ -40,11 +40,11 @@ pub record IsSettling (moment : ℤ) (past left next : List Entry) : Type 0 wher
   pub move : IsOfPass moment (ids_after past) (passes moment made (ids_after past) past) left next
 
 -- what a command makes of a past
-abbrev pub IsOfCommand : Bool → List Entry → Command → Frames
+abbrev pub IsOfCommand : Bool → List Entry → Parts → Frames
 IsOfCommand true past command left next = IsSettling (given past command) past left next
 IsOfCommand false past command left next = IsOnly (reverse past) (asked past command).entries left next
 
-abbrev pub IsOfReading : List Entry → Result Command LineError → Frames
+abbrev pub IsOfReading : List Entry → Result Parts LineError → Frames
 IsOfReading past (Ok command) left next = IsOfCommand (is_settle command.op) past command left next
 IsOfReading past (Err error) left next = ⊥
 

@@ -1,5 +1,5 @@
 -- What calls over a store leave of a history that comes to be entry by entry.
-use Rattle.std.specs.Prelude.{◌≡◌, ℕ, ◌+◌, ◌<◌, ◌≤◌, ◌^◌, List, [], ◌++◌, length, reverse, Option, Some, None}
+use Rattle.std.specs.Prelude.{◌≡◌, ◌⊎◌, ℕ, ◌+◌, ◌<◌, ◌≤◌, ◌^◌, List, [], ◌++◌, length, reverse, Option, Some, None}
 use mathlib.Core.List.{IsPrefix}
 use Rattle.tf_model.specs.Causes.{Rose}
 use Rattle.tf_model.specs.declared.entry.Entry.{Entry}
@@ -41,19 +41,40 @@ pub record IsFull (frames : Frames) (first whole left : List Entry) (len : ℕ) 
   pub part : IsPart first whole left next
   pub passes : 2 ^ 40 < len + frame_size next
 
+-- the frame that comes next is not written
+pub record IsUnwritten (frames : Frames) (first whole left : List Entry) : Type 0 where
+  pub next : List Entry
+  pub frame : frames left next
+  pub part : IsPart first whole left next
+
 -- Why the way to a whole history ends before it, and what is left then: after a disk fault the entries whose append failed
--- come next. The entries come in these frames.
-abbrev pub IsStop : Frames → List Entry → List Entry → List Entry → List Entry → Option ℕ → ℕ → ℕ → ℕ → StoreError → Type 0
-IsStop frames first whole left failed broken len faults_before faults_now store_error.Memory = IsPart first whole left [] × (broken ≡ None)
-IsStop frames first whole left failed broken len faults_before faults_now (store_error.Disk count) =
-    IsPart first whole left failed × frames left failed × (broken ≡ Some count) × (count ≡ faults_now) × Rose faults_before faults_now
-IsStop frames first whole left failed broken len faults_before faults_now (store_error.Broken count) = ⊥
-IsStop frames first whole left failed broken len faults_before faults_now (store_error.Full told) = IsFull frames first whole left len × (told ≡ len) × (broken ≡ None)
+-- come next. The entries come in these frames. A store that was broken before, at a count of faults, writes none of them.
+abbrev pub IsStop : Frames → List Entry → List Entry → List Entry → List Entry → Option ℕ → Option ℕ → ℕ → ℕ → ℕ → StoreError → Type 0
+IsStop frames first whole left failed before broken len faults_before faults_now store_error.Memory = IsPart first whole left [] × (broken ≡ before)
+IsStop frames first whole left failed before broken len faults_before faults_now (store_error.Disk count) =
+    IsPart first whole left failed × frames left failed × (broken ≡ Some count) × (count ≡ faults_now) × Rose faults_before faults_now × (before ≡ None)
+IsStop frames first whole left failed before broken len faults_before faults_now (store_error.Broken count) =
+    IsUnwritten frames first whole left × (before ≡ Some count) × (broken ≡ Some count)
+IsStop frames first whole left failed before broken len faults_before faults_now (store_error.Full told) =
+    IsFull frames first whole left len × (told ≡ len) × (broken ≡ None) × (before ≡ None)
+
+-- a store that was broken at a count of faults stays so, and its history as it was
+abbrev pub StaysBroken : Option ℕ → List Entry → Option ℕ → List Entry → Type 0
+StaysBroken before first broken now = (count : ℕ) → before ≡ Some count → (broken ≡ Some count) × (now ≡ first)
+
+-- What was written fits: all is as it was, or the file has no more than 2^40 bytes.
+abbrev pub IsWithin : List Entry → List Entry → ℕ → ℕ → Type 0
+IsWithin first now len len_now = ((now ≡ first) × (len_now ≡ len)) ⊎ (len_now ≤ 2 ^ 40)
 
 -- a history goes on as another one, in which the Pages behind it are right
 pub record GoesOn (first now : List Entry) : Type 0 where
   pub begun : IsPrefix first now
   pub right : AllRight (length first) (read (reverse now))
+
+-- what was written between two moments of a store fits
+module _ {D : Type 0} {g : Ghosts D} where
+  abbrev pub Fits : Store D g → Store D g → Type 0
+  Fits old new = IsWithin (history_of old) (history_of new) (file_len old) (file_len new)
 
 module _ {D : Type 0} {g : Ghosts D} (m : Meaning D) where
   -- what a call leaves of a store, whatever it answers
@@ -63,8 +84,9 @@ module _ {D : Type 0} {g : Ghosts D} (m : Meaning D) where
     pub opened_count : opened_with new ≡ opened_with old
     pub found : found_of new ≡ found_of old
     pub later : m.faults (disk_of old) ≤ m.faults (disk_of new)
+    pub stuck : StaysBroken (broken_at old) (history_of old) (broken_at new) (history_of new)
 
   -- a call stops on the way to a whole history, whose entries come in these frames
   abbrev pub Stops : Frames → Store D g → List Entry → Store D g → StoreError → Type 0
   Stops frames old whole new error =
-      IsStop frames (history_of old) whole (history_of new) (failed_of new) (broken_at new) (file_len new) (m.faults (disk_of old)) (m.faults (disk_of new)) error
+      IsStop frames (history_of old) whole (history_of new) (failed_of new) (broken_at old) (broken_at new) (file_len new) (m.faults (disk_of old)) (m.faults (disk_of new)) error

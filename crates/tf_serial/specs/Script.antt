@@ -3,7 +3,7 @@ use Rattle.std.specs.Prelude.{◌≡◌, ℕ, ℤ, ◌+◌, ◌<◌, List, [], �
 use Rattle.tf_model.specs.declared.entry.Entry.{Entry}
 use Rattle.tf_command.specs.Commands.{command_of}
 use Rattle.tf_command.specs.Lines.{is_blank}
-use Rattle.tf_command.specs.declared.command.Command.{Command}
+use Rattle.tf_command.specs.declared.command.Parts.{Parts}
 use Rattle.tf_command.specs.declared.command.LineError.{LineError}
 use Rattle.tf_reply.specs.Answers.{reply_line}
 use Rattle.tf_reply.specs.Refusals.{line_refusal}
@@ -24,26 +24,26 @@ use Rattle.tf_serial.specs.Moves.{settled}
 
 -- ---- commands
 -- the moment that a command gives, or that of the newest entry where it gives none
-abbrev pub given : List Entry → Command → ℤ
+abbrev pub given : List Entry → Parts → ℤ
 given past command = unwrap_or command.at_ms (last_ms_in past)
 
 -- what a command asks for; where one thread makes the entries, the actor of commands is 0
-abbrev pub asked : List Entry → Command → Asked
+abbrev pub asked : List Entry → Parts → Asked
 asked past command = decide.asked past 0 (given past command) command.op
 
 -- the past after a command: after the entries that it asks for, and after the moves of a settling
-abbrev pub after_command : List Entry → Command → List Entry
+abbrev pub after_command : List Entry → Parts → List Entry
 after_command past command =
     let now = past_after past (asked past command) in
     if is_settle command.op then settled (given past command) now else now
 
 -- the reply to a command
-abbrev pub reply_of : List Entry → Command → Reply
+abbrev pub reply_of : List Entry → Parts → Reply
 reply_of past command = replied_after past (after_command past command) 0 (given past command) command
 
 -- ---- lines
 -- the past after a line that was read
-abbrev pub after_reading : List Entry → Result Command LineError → List Entry
+abbrev pub after_reading : List Entry → Result Parts LineError → List Entry
 after_reading past (Ok command) = after_command past command
 after_reading past (Err error) = past
 
@@ -52,7 +52,7 @@ abbrev pub after_line : List Entry → ℕ → List ℕ → List Entry
 after_line past number line = if is_blank line then past else after_reading past (command_of number line)
 
 -- the reply to a line that was read; no reading wants memory
-abbrev pub reply_to_reading : List Entry → ℕ → Result Command LineError → Reply
+abbrev pub reply_to_reading : List Entry → ℕ → Result Parts LineError → Reply
 reply_to_reading past number (Ok command) = reply_of past command
 reply_to_reading past number (Err error) = reply.Refused number (length past) (refusal_or (line_refusal error))
 

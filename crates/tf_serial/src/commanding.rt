@@ -1,11 +1,10 @@
 // Doing a command.
-ghost use Rattle.std.specs.Prelude.{◌≡◌, ◌++◌, IfErr, IfOk, None, OnOk, reverse, true};
-ghost use Rattle.tf_command.specs.Formed.{IsFormed};
+ghost use Rattle.std.specs.Prelude.{◌≡◌, ◌++◌, IfErr, IfOk, OnOk, reverse, true};
 ghost use Rattle.tf_decide.specs.Asking as decide;
 ghost use Rattle.tf_decide.specs.Replying.{is_settle as settles, past_after, replied, replied_after};
 ghost use Rattle.tf_serial.specs.Frames.{IsOfCommand, IsOnly, IsSettling};
 ghost use Rattle.tf_serial.specs.Moves.{settled};
-ghost use Rattle.tf_serial.specs.Parts.{Runs, Stops};
+ghost use Rattle.tf_serial.specs.Parts.{Fits, Runs, Stops};
 ghost use Rattle.tf_serial.specs.Script as spec;
 ghost use Rattle.tf_serial.specs.Script.{after_command, reply_of};
 ghost use Rattle.tf_store.specs.Commands.{entries_of};
@@ -22,19 +21,18 @@ use tf_store::{Store, StoreError};
 pub fn do_command<D: Disk>(
     alloc: Global,
     store: &mut Store<D>,
-    command: Command,
+    command: &Command,
 ) -> Result<Reply, StoreError>
-    requires whole { broken_at store.old ≡ None }
-    requires formed { IsFormed command }
-    ensures reply { IfOk result (λ reply. reply ≡ reply_of (reverse (history_of store.old)) command) }
-    ensures after { OnOk result (reverse (history_of store.new) ≡ after_command (reverse (history_of store.old)) command) }
-    ensures whole { OnOk result (broken_at store.new ≡ None) }
-    ensures stops { IfErr result (Stops D.meaning (IsOfCommand (settles command.op) (reverse (history_of store.old)) command) store.old (reverse (after_command (reverse (history_of store.old)) command)) store.new) }
+    ensures reply { IfOk result (λ reply. reply ≡ reply_of (reverse (history_of store.old)) command.now) }
+    ensures after { OnOk result (reverse (history_of store.new) ≡ after_command (reverse (history_of store.old)) command.now) }
+    ensures broken { OnOk result (broken_at store.new ≡ broken_at store.old) }
+    ensures within { OnOk result (Fits store.old store.new) }
+    ensures stops { IfErr result (Stops D.meaning (IsOfCommand (settles command.now.op) (reverse (history_of store.old)) command.now) store.old (reverse (after_command (reverse (history_of store.old)) command.now)) store.new) }
     ensures runs { Runs D.meaning store.old store.new }
 {
-    let moment = given(store, &command);
-    if is_settle(&command.op) {
-        do_moves(alloc, store, &command, moment)
+    let moment = given(store, command);
+    if is_settle(&command.parts().op) {
+        do_moves(alloc, store, command, moment)
     } else {
         do_entries(store, command, moment)
     }
@@ -45,7 +43,7 @@ pub fn do_command<D: Disk>(
 fn given<D: Disk>(store: &Store<D>, command: &Command) -> i64
     ensures { result ≡ spec.given (reverse (history_of store.now)) command.now }
 {
-    match command.at_ms {
+    match command.parts().at_ms {
         Some(at_ms) => at_ms,
         None => store.last_ms(),
     }
@@ -64,11 +62,11 @@ fn do_moves<D: Disk>(
     command: &Command,
     moment: i64,
 ) -> Result<Reply, StoreError>
-    requires whole { broken_at store.old ≡ None }
     requires settle { settles command.now.op ≡ true }
     ensures reply { IfOk result (λ told. told ≡ replied_after (reverse (history_of store.old)) (reverse (history_of store.new)) 0 moment command.now) }
     ensures after { OnOk result (reverse (history_of store.new) ≡ settled moment (reverse (history_of store.old))) }
-    ensures whole { OnOk result (broken_at store.new ≡ None) }
+    ensures broken { OnOk result (broken_at store.new ≡ broken_at store.old) }
+    ensures within { OnOk result (Fits store.old store.new) }
     ensures stops { IfErr result (Stops D.meaning (IsSettling moment (reverse (history_of store.old))) store.old (reverse (settled moment (reverse (history_of store.old)))) store.new) }
     ensures runs { Runs D.meaning store.old store.new }
 {
@@ -84,15 +82,14 @@ fn do_moves<D: Disk>(
 // Commits the entries of a command that is no settling, and gives the reply.
 fn do_entries<D: Disk>(
     store: &mut Store<D>,
-    command: Command,
+    command: &Command,
     moment: i64,
 ) -> Result<Reply, StoreError>
-    requires whole { broken_at store.old ≡ None }
-    requires formed { IsFormed command }
-    ensures reply { IfOk result (λ reply. reply ≡ replied (reverse (history_of store.old)) 0 moment command) }
-    ensures after { OnOk result (history_of store.new ≡ history_of store.old ++ entries_of (history_of store.old) 0 moment command) }
-    ensures whole { OnOk result (broken_at store.new ≡ None) }
-    ensures stops { IfErr result (Stops D.meaning (IsOnly (history_of store.old) (entries_of (history_of store.old) 0 moment command)) store.old (history_of store.old ++ entries_of (history_of store.old) 0 moment command) store.new) }
+    ensures reply { IfOk result (λ reply. reply ≡ replied (reverse (history_of store.old)) 0 moment command.now) }
+    ensures after { OnOk result (history_of store.new ≡ history_of store.old ++ entries_of (history_of store.old) 0 moment command.now) }
+    ensures broken { OnOk result (broken_at store.new ≡ broken_at store.old) }
+    ensures within { OnOk result (Fits store.old store.new) }
+    ensures stops { IfErr result (Stops D.meaning (IsOnly (history_of store.old) (entries_of (history_of store.old) 0 moment command.now)) store.old (history_of store.old ++ entries_of (history_of store.old) 0 moment command.now) store.new) }
     ensures runs { Runs D.meaning store.old store.new }
 {
     store.submit(command, 0, moment)

@@ -1,7 +1,7 @@
 // Committing one entry.
-ghost use Rattle.std.specs.Prelude.{◌≡◌, ◌∷◌, ◌++◌, [], IfErr, IfOk, None, OnOk, reverse};
+ghost use Rattle.std.specs.Prelude.{◌≡◌, ◌∷◌, ◌++◌, [], IfErr, IfOk, OnOk, reverse};
 ghost use Rattle.tf_serial.specs.Frames.{IsOnly};
-ghost use Rattle.tf_serial.specs.Parts.{IsNext, Runs, Stops};
+ghost use Rattle.tf_serial.specs.Parts.{Fits, IsNext, Runs, Stops};
 ghost use Rattle.tf_store.specs.Words.{broken_at, history_of};
 
 use std::alloc::Global;
@@ -15,10 +15,10 @@ pub fn commit_entry<D: Disk>(
     store: &mut Store<D>,
     entry: Entry,
 ) -> Result<(), StoreError>
-    requires whole { broken_at store.old ≡ None }
     requires next { IsNext (reverse (history_of store.old)) entry }
     ensures after { OnOk result (history_of store.new ≡ history_of store.old ++ entry ∷ []) }
-    ensures whole { OnOk result (broken_at store.new ≡ None) }
+    ensures broken { OnOk result (broken_at store.new ≡ broken_at store.old) }
+    ensures within { OnOk result (Fits store.old store.new) }
     ensures stops { IfErr result (Stops D.meaning (IsOnly (history_of store.old) (entry ∷ [])) store.old (history_of store.old ++ entry ∷ []) store.new) }
     ensures runs { Runs D.meaning store.old store.new }
 {

@@ -1,5 +1,5 @@
 // The lines of a script, done in order.
-ghost use Rattle.std.specs.Prelude.{◌≡◌, ◌≤◌, ◌++◌, IfErr, IfOk, IsSome, None, OnOk, length, reverse, string_bytes};
+ghost use Rattle.std.specs.Prelude.{◌≡◌, ◌≤◌, ◌++◌, IfErr, IfOk, IsSome, OnOk, length, reverse, string_bytes};
 ghost use mathlib.Core.List.{IsPrefix};
 ghost use Rattle.tf_command.specs.Commands.{command_of};
 ghost use Rattle.tf_reply.specs.Refusals.{line_refusal};
@@ -8,7 +8,7 @@ ghost use Rattle.tf_decide.specs.Asking.{refusal_or};
 ghost use Rattle.tf_core.specs.Legal.{IsTakenHistory, read};
 ghost use Rattle.tf_history.specs.Histories.{AllRight};
 ghost use Rattle.tf_serial.specs.Frames.{IsOfLine, IsOfLines, IsOfReading};
-ghost use Rattle.tf_serial.specs.Parts.{Runs, Stops};
+ghost use Rattle.tf_serial.specs.Parts.{Fits, Runs, StaysBroken, Stops};
 ghost use Rattle.tf_serial.specs.Script.{IsGrouped, after_line, after_reading, history_after, output, reply_to, reply_to_reading};
 ghost use Rattle.tf_store.specs.Words.{broken_at, disk_of, found_of, history_of, opened_at, opened_with};
 
@@ -21,22 +21,26 @@ use tf_model::OutOfMemory;
 use tf_reply::{Reply, line_refusal, write_reply};
 use tf_store::{Store, StoreError};
 
-/// Does the lines in order over a store that is not broken, and gives the replies to them.
+/// Does the lines in order over a store, and gives the replies to them.
 ///
 /// A command makes its entries at the moment that it gives, or at that of the newest entry where it gives none. The entries of
 /// a command are one frame, and each move of a settling is one. `Disk` comes only where a call of the disk failed in this
-/// call, and `Full` exactly where the next frame would make the file longer than 2^40 bytes. After a refusal the store has the
-/// first entries of those that all lines make, and no reply is given.
+/// call, and `Full` exactly where the next frame would make the file longer than 2^40 bytes. `Broken` comes exactly where the
+/// store was broken before and a frame is to be written: lines that make no entry are done on a broken store too. After a
+/// refusal the store has the first entries of those that all lines make, and no reply is given.
 pub fn run_script<D: Disk>(
     alloc: Global,
     lines: &Lines,
     store: &mut Store<D>,
 ) -> Result<String, StoreError>
-    requires whole { broken_at store.old ≡ None }
     ensures output { IfOk result (λ text. string_bytes text ≡ output (reverse (history_of store.old)) 1 lines.now) }
     ensures after { OnOk result (history_of store.new ≡ history_after (history_of store.old) lines.now) }
-    ensures whole { OnOk result (broken_at store.new ≡ None) }
+    ensures broken { OnOk result (broken_at store.new ≡ broken_at store.old) }
+    // No frame that was written made the file longer than 2^40 bytes.
+    ensures within { OnOk result (Fits store.old store.new) }
     ensures stops { IfErr result (Stops D.meaning (IsOfLines (reverse (history_of store.old)) 1 lines.now) store.old (history_after (history_of store.old) lines.now) store.new) }
+    // A store that was broken stays so, and its history as it was.
+    ensures stuck { StaysBroken (broken_at store.old) (history_of store.old) (broken_at store.new) (history_of store.new) }
     ensures begun { IsPrefix (history_of store.old) (history_of store.new) }
     // The Pages that a settling makes are right.
     ensures right { AllRight (length (history_of store.old)) (read (reverse (history_of store.new))) }
@@ -59,10 +63,10 @@ fn do_lines<D: Disk>(
     lines: &Lines,
     store: &mut Store<D>,
 ) -> Result<String, StoreError>
-    requires whole { broken_at store.old ≡ None }
     ensures output { IfOk result (λ text. string_bytes text ≡ output (reverse (history_of store.old)) 1 lines.now) }
     ensures after { OnOk result (history_of store.new ≡ history_after (history_of store.old) lines.now) }
-    ensures whole { OnOk result (broken_at store.new ≡ None) }
+    ensures broken { OnOk result (broken_at store.new ≡ broken_at store.old) }
+    ensures within { OnOk result (Fits store.old store.new) }
     ensures stops { IfErr result (Stops D.meaning (IsOfLines (reverse (history_of store.old)) 1 lines.now) store.old (history_after (history_of store.old) lines.now) store.new) }
     ensures runs { Runs D.meaning store.old store.new }
 {
@@ -85,10 +89,10 @@ fn do_line<D: Disk>(
     line: &[u8],
     text: &mut String,
 ) -> Result<(), StoreError>
-    requires whole { broken_at store.old ≡ None }
     ensures reply { OnOk result (string_bytes text.new ≡ string_bytes text.old ++ reply_to (reverse (history_of store.old)) number line.now) }
     ensures after { OnOk result (reverse (history_of store.new) ≡ after_line (reverse (history_of store.old)) number line.now) }
-    ensures whole { OnOk result (broken_at store.new ≡ None) }
+    ensures broken { OnOk result (broken_at store.new ≡ broken_at store.old) }
+    ensures within { OnOk result (Fits store.old store.new) }
     ensures stops { IfErr result (Stops D.meaning (IsOfLine (reverse (history_of store.old)) number line.now) store.old (reverse (after_line (reverse (history_of store.old)) number line.now)) store.new) }
     ensures runs { Runs D.meaning store.old store.new }
 {
@@ -107,15 +111,15 @@ fn answer<D: Disk>(
     number: u64,
     line: &[u8],
 ) -> Result<Reply, StoreError>
-    requires whole { broken_at store.old ≡ None }
     ensures reply { IfOk result (λ reply. reply ≡ reply_to_reading (reverse (history_of store.old)) number (command_of number line.now)) }
     ensures after { OnOk result (reverse (history_of store.new) ≡ after_reading (reverse (history_of store.old)) (command_of number line.now)) }
-    ensures whole { OnOk result (broken_at store.new ≡ None) }
+    ensures broken { OnOk result (broken_at store.new ≡ broken_at store.old) }
+    ensures within { OnOk result (Fits store.old store.new) }
     ensures stops { IfErr result (Stops D.meaning (IsOfReading (reverse (history_of store.old)) (command_of number line.now)) store.old (reverse (after_reading (reverse (history_of store.old)) (command_of number line.now))) store.new) }
     ensures runs { Runs D.meaning store.old store.new }
 {
     match read_command(alloc, line, number) {
-        Ok(command) => do_command(alloc, store, command),
+        Ok(command) => do_command(alloc, store, &command),
         Err(error) => {
             let reply = refused(number, store.count(), error)?;
             Ok(reply)

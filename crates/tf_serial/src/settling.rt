@@ -1,9 +1,9 @@
 // The moves of a settling at a given moment.
-ghost use Rattle.std.specs.Prelude.{◌≡◌, IfErr, IfOk, IfSome, None, OnOk, reverse};
+ghost use Rattle.std.specs.Prelude.{◌≡◌, IfErr, IfOk, IfSome, OnOk, reverse};
 ghost use Rattle.tf_core.specs.Listing.{ids_after};
 ghost use Rattle.tf_serial.specs.Frames.{IsMove, IsOfPass, IsSettling};
 ghost use Rattle.tf_serial.specs.Moves.{IsSettled, moved_out, moves, next_move, pass, settled};
-ghost use Rattle.tf_serial.specs.Parts.{IsNext, Runs, Stops};
+ghost use Rattle.tf_serial.specs.Parts.{Fits, IsNext, Runs, Stops};
 ghost use Rattle.tf_serial.specs.Settling.{AreBatch, IsAdvanced};
 ghost use Rattle.tf_store.specs.Standing.{AreSpelled};
 ghost use Rattle.tf_store.specs.Words.{broken_at, history_of};
@@ -18,10 +18,10 @@ use tf_store::{Store, StoreError};
 /// Moves the transforms in the order of their ids, each until it is idle, and again until a pass moves nothing. Each move is
 /// one frame of the file.
 pub fn settle<D: Disk>(alloc: Global, store: &mut Store<D>, moment: i64) -> Result<(), StoreError>
-    requires whole { broken_at store.old ≡ None }
     ensures after { OnOk result (reverse (history_of store.new) ≡ settled moment (reverse (history_of store.old))) }
     ensures ends { OnOk result (IsSettled moment (reverse (history_of store.new))) }
-    ensures whole { OnOk result (broken_at store.new ≡ None) }
+    ensures broken { OnOk result (broken_at store.new ≡ broken_at store.old) }
+    ensures within { OnOk result (Fits store.old store.new) }
     ensures stops { IfErr result (Stops D.meaning (IsSettling moment (reverse (history_of store.old))) store.old (reverse (settled moment (reverse (history_of store.old)))) store.new) }
     ensures runs { Runs D.meaning store.old store.new }
 {
@@ -39,12 +39,12 @@ fn make_passes<D: Disk>(
     ids: &List<Text>,
     moment: i64,
 ) -> Result<(), StoreError>
-    requires whole { broken_at store.old ≡ None }
     requires batch { AreBatch (reverse (history_of store.old)) }
     requires ids { ids.now ≡ ids_after (reverse (history_of store.old)) }
     ensures after { OnOk result (reverse (history_of store.new) ≡ settled moment (reverse (history_of store.old))) }
     ensures ends { OnOk result (IsSettled moment (reverse (history_of store.new))) }
-    ensures whole { OnOk result (broken_at store.new ≡ None) }
+    ensures broken { OnOk result (broken_at store.new ≡ broken_at store.old) }
+    ensures within { OnOk result (Fits store.old store.new) }
     ensures stops { IfErr result (Stops D.meaning (IsSettling moment (reverse (history_of store.old))) store.old (reverse (settled moment (reverse (history_of store.old)))) store.new) }
     ensures runs { Runs D.meaning store.old store.new }
 {
@@ -67,10 +67,10 @@ fn make_pass<D: Disk>(
     ids: &List<Text>,
     moment: i64,
 ) -> Result<(), StoreError>
-    requires whole { broken_at store.old ≡ None }
     requires batch { AreBatch (reverse (history_of store.old)) }
     ensures after { OnOk result (reverse (history_of store.new) ≡ pass moment ids.now (reverse (history_of store.old))) }
-    ensures whole { OnOk result (broken_at store.new ≡ None) }
+    ensures broken { OnOk result (broken_at store.new ≡ broken_at store.old) }
+    ensures within { OnOk result (Fits store.old store.new) }
     ensures stops { IfErr result (Stops D.meaning (IsOfPass moment ids.now (reverse (history_of store.old))) store.old (reverse (pass moment ids.now (reverse (history_of store.old)))) store.new) }
     ensures runs { Runs D.meaning store.old store.new }
 {
@@ -90,10 +90,10 @@ fn make_moves<D: Disk>(
     id: &Text,
     moment: i64,
 ) -> Result<(), StoreError>
-    requires whole { broken_at store.old ≡ None }
     requires batch { AreBatch (reverse (history_of store.old)) }
     ensures after { OnOk result (reverse (history_of store.new) ≡ moved_out moment id.now (reverse (history_of store.old))) }
-    ensures whole { OnOk result (broken_at store.new ≡ None) }
+    ensures broken { OnOk result (broken_at store.new ≡ broken_at store.old) }
+    ensures within { OnOk result (Fits store.old store.new) }
     ensures stops { IfErr result (Stops D.meaning (IsMove moment id.now (reverse (history_of store.old))) store.old (reverse (moved_out moment id.now (reverse (history_of store.old)))) store.new) }
     ensures runs { Runs D.meaning store.old store.new }
 {
@@ -113,9 +113,9 @@ fn advance<D: Disk>(
     id: &Text,
     moment: i64,
 ) -> Result<bool, StoreError>
-    requires whole { broken_at store.old ≡ None }
     ensures moved { IfOk result (λ any. IsAdvanced moment any id.now (reverse (history_of store.old)) (reverse (history_of store.new))) }
-    ensures whole { OnOk result (broken_at store.new ≡ None) }
+    ensures broken { OnOk result (broken_at store.new ≡ broken_at store.old) }
+    ensures within { OnOk result (Fits store.old store.new) }
     ensures stops { IfErr result (Stops D.meaning (IsMove moment id.now (reverse (history_of store.old))) store.old (reverse (moves moment 1 id.now (reverse (history_of store.old)))) store.new) }
     ensures runs { Runs D.meaning store.old store.new }
 {

@@ -1,8 +1,7 @@
 // What a store tells.
-ghost use Rattle.std.specs.Prelude.{◌≡◌, IfOk, length, reverse};
+ghost use Rattle.std.specs.Prelude.{◌≡◌, IfOk, length};
 ghost use Rattle.tf_core.specs.Held.{last_ms_of};
 ghost use Rattle.tf_core.specs.Listing.{ids_in};
-ghost use Rattle.tf_core.specs.Moves.{moment_after};
 ghost use Rattle.tf_store.specs.Standing.{AreSpelled};
 
 use crate::state::Store;
@@ -47,14 +46,6 @@ impl<D: Disk> Store<D> {
         ensures { result ≡ last_ms_of (history_of self.now) }
     {
         self.core.last_ms()
-    }
-
-    /// The moment of the next entry where a moment is given, in milliseconds since 1970: it is in range, and not before the
-    /// last entry's. Takes no memory.
-    pub fn moment(&self, now: i64) -> i64
-        ensures { result ≡ moment_after (reverse (history_of self.now)) now }
-    {
-        self.core.moment(now)
     }
 
     /// Sets the found count to the length of the history. Takes no memory.

@@ -11,4 +11,4 @@ pub returns-clause-taken : goal.returns-clause-taken
 returns-clause-taken c =
     let past = reverse c.args.core.now.history in
     if_ok _ _ c.decided.result c.decided.ensures.entries (λ d is.
-    subst (AreTaken past) (sym (is ∙ ap (λ (a : Asked). a.entries) c.in_ok-asked.ensures.asked)) (asked_taken past c.given_by-given.result.actor c.given_by-given.result.at_ms c.args.command.op c.is_taken.ensures (subst (λ (g : Given). g.actor ≤ 15) (sym c.given_by-given.ensures) c.requires.actor) c.requires.formed.1))
+    subst (AreTaken past) (sym (is ∙ ap (λ (a : Asked). a.entries) c.in_ok-asked.ensures.asked)) (asked_taken past c.given_by-given.result.actor c.given_by-given.result.at_ms c.parts-parts.result.now.op c.is_taken.ensures (subst (λ (g : Given). g.actor ≤ 15) (sym c.given_by-given.ensures) c.requires.actor) c.parts-parts.ensures.formed.1))

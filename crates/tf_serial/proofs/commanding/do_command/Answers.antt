@@ -19,11 +19,12 @@ returns-else-is_settle-clause-stops g c =
     let new = c.do_entries.new.store in
     let history = history_of old in
     let past = reverse history in
-    let command = c.args.command in
+    let command = c.args.command.now in
     let result = c.do_entries.result in
     let at : to_z w64 (of_z w64 c.given-moment.result) ≡ given past command = to_z-of_z w64 c.given-moment.result (search rules) ∙ c.given-moment.ensures in
-    let is : is_settle command.op ≡ false = sym c.is_settle.ensures ∙ c.if-is_settle.false in
+    let same : c.parts.result.now ≡ command = c.parts.ensures.parts in
+    let is : is_settle command.op ≡ false = sym (λ i. is_settle (same i).op) ∙ (sym c.is_settle.ensures ∙ c.if-is_settle.false) in
     let es : List Entry = (asked past command).entries in
     let here = subst (λ (t : ℤ). IfErr result (Stops m (IsOnly history (entries_of history 0 t command)) old (history ++ entries_of history 0 t command) new)) at c.do_entries.ensures.stops in
     subst (λ (w : List Entry). IfErr result (Stops m (IsOfCommand (is_settle command.op) past command) old w new)) (entries_whole history command is)
-    (stop_in result (IsOnly history es) (IsOfCommand (is_settle command.op) past command) history (history ++ es) (history_of new) (failed_of new) (broken_at new) (file_len new) (m.faults (disk_of old)) (m.faults (disk_of new)) (entries_frame history command is) here)
+    (stop_in result (IsOnly history es) (IsOfCommand (is_settle command.op) past command) history (history ++ es) (history_of new) (failed_of new) (broken_at old) (broken_at new) (file_len new) (m.faults (disk_of old)) (m.faults (disk_of new)) (entries_frame history command is) here)

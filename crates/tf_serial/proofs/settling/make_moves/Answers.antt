@@ -9,10 +9,11 @@ use Rattle.tf_serial.specs.Settling.{IsAdvanced}
 use Rattle.tf_serial.proofs.Frames.{all_made, fewer_now, move_frames, next_begins, one_more}
 use Rattle.tf_serial.proofs.GoingOn.{runs_itself, runs_through}
 use Rattle.tf_serial.proofs.Stopping.{stop_wider}
+use Rattle.tf_serial.proofs.Within.{within_itself, within_through}
 use Rattle.tf_serial.proofs.settling.make_moves.Goals as goal
 
 pub moves-init : goal.moves-init
-moves-init g c = record { whole = c.requires.whole; so_far = (0, refl); runs = runs_itself g.D.Disk.meaning c.args.store.now }
+moves-init g c = record { broken = refl; within = within_itself (history_of c.args.store.now) (file_len c.args.store.now); so_far = (0, refl); runs = runs_itself g.D.Disk.meaning c.args.store.now }
 
 pub moves-smaller : goal.moves-smaller
 moves-smaller g c =
@@ -31,7 +32,8 @@ moves-preserved g c =
     let now = reverse (history_of c.advance.new.store) in
     let advanced = subst (λ (b : Bool). IsAdvanced given b id past now) c.in-Ok-true.field-0-test c.in-Ok-true.ensures.moved in
     record {
-      whole = c.in-Ok-true.ensures.whole;
+      broken = c.in-Ok-true.ensures.broken ∙ c.moves.invariant.broken;
+      within = within_through (history_of c.args.store.now) (history_of c.moves.store) (history_of c.advance.new.store) (file_len c.args.store.now) (file_len c.moves.store) (file_len c.advance.new.store) c.moves.invariant.within c.in-Ok-true.ensures.within;
       so_far = one_more given id (reverse (history_of c.args.store.now)) past c.moves.invariant.so_far now advanced.0 advanced.1 advanced.2;
       runs = runs_through g.D.Disk.meaning c.args.store.now c.moves.store c.advance.new.store c.moves.invariant.runs c.in-Ok-true.ensures.runs;
     }
@@ -62,8 +64,11 @@ returns-in-Err-clause-stops g c =
     let first = reverse (history_of old) in
     let past = reverse (history_of at.store) in
     subst (λ (t : ℤ). Stops m (IsMove t id first) old (reverse (moved_out t id first)) new c.in-Err.error) same
-    (stop_wider (IsMove given id past) (IsMove given id first) (history_of old) (history_of at.store) (reverse (moves given 1 id past)) (reverse (moved_out given id first)) (history_of new) (failed_of new) (broken_at new) (file_len new) (m.faults (disk_of old)) (m.faults (disk_of at.store)) (m.faults (disk_of new)) c.in-Err.error
-    (move_frames given id first past at.invariant.so_far) at.invariant.runs.history.begun (next_begins given id first past at.invariant.so_far c.requires.batch) at.invariant.runs.later c.in-Err.ensures.stops)
+    (stop_wider (IsMove given id past) (IsMove given id first) (history_of old) (history_of at.store) (reverse (moves given 1 id past)) (reverse (moved_out given id first)) (history_of new) (failed_of new) (broken_at old) (broken_at at.store) (broken_at new) (file_len new) (m.faults (disk_of old)) (m.faults (disk_of at.store)) (m.faults (disk_of new)) c.in-Err.error
+    (move_frames given id first past at.invariant.so_far) at.invariant.runs.history.begun (next_begins given id first past at.invariant.so_far c.requires.batch) at.invariant.broken at.invariant.runs.later c.in-Err.ensures.stops)
 
 pub returns-in-Err-clause-runs : goal.returns-in-Err-clause-runs
 returns-in-Err-clause-runs g c = runs_through g.D.Disk.meaning c.args.store.now c.moves.store c.advance.new.store c.moves.invariant.runs c.in-Err.ensures.runs
+
+pub returns-in-Ok-false-clause-within : goal.returns-in-Ok-false-clause-within
+returns-in-Ok-false-clause-within g c = within_through (history_of c.args.store.now) (history_of c.moves.store) (history_of c.advance.new.store) (file_len c.args.store.now) (file_len c.moves.store) (file_len c.advance.new.store) c.moves.invariant.within c.in-Ok-false.ensures.within

@@ -11,15 +11,16 @@ use Rattle.tf_serial.proofs.GoingOn.{runs_itself, runs_through}
 use Rattle.tf_serial.proofs.Prefixes.{prefix_same}
 use Rattle.tf_serial.proofs.Settled.{fewer_to_pass, settled_ends}
 use Rattle.tf_serial.proofs.Stopping.{stop_wider}
+use Rattle.tf_serial.proofs.Within.{within_itself, within_through}
 use Rattle.tf_serial.proofs.settling.make_passes.Goals as goal
 
 pub passes-init : goal.passes-init
-passes-init g c = record { whole = c.requires.whole; so_far = (0, refl); runs = runs_itself g.D.Disk.meaning c.args.store.now }
+passes-init g c = record { broken = refl; within = within_itself (history_of c.args.store.now) (file_len c.args.store.now); so_far = (0, refl); runs = runs_itself g.D.Disk.meaning c.args.store.now }
 
-pub make_pass-requires-clause-batch : goal.make_pass-requires-clause-batch
-make_pass-requires-clause-batch g c =
+pub make_pass-requires : goal.make_pass-requires
+make_pass-requires g c =
     let given = to_z w64 (of_z w64 c.args.moment) in
-    passed_batch given c.args.ids.now (reverse (history_of c.args.store.now)) (reverse (history_of c.passes.store)) c.requires.ids c.passes.invariant.so_far c.requires.batch
+    record { batch = passed_batch given c.args.ids.now (reverse (history_of c.args.store.now)) (reverse (history_of c.passes.store)) c.requires.ids c.passes.invariant.so_far c.requires.batch }
 
 pub passes-smaller : goal.passes-smaller
 passes-smaller g c =
@@ -35,7 +36,8 @@ pub passes-preserved : goal.passes-preserved
 passes-preserved g c =
     let given = to_z w64 (of_z w64 c.args.moment) in
     record {
-      whole = c.in-Ok.ensures.whole;
+      broken = c.in-Ok.ensures.broken ∙ c.passes.invariant.broken;
+      within = within_through (history_of c.args.store.now) (history_of c.passes.store) (history_of c.make_pass.new.store) (file_len c.args.store.now) (file_len c.passes.store) (file_len c.make_pass.new.store) c.passes.invariant.within c.in-Ok.ensures.within;
       so_far = pass_once given c.args.ids.now (reverse (history_of c.args.store.now)) (reverse (history_of c.passes.store)) c.requires.ids c.passes.invariant.so_far (reverse (history_of c.make_pass.new.store)) c.in-Ok.ensures.after;
       runs = runs_through g.D.Disk.meaning c.args.store.now c.passes.store c.make_pass.new.store c.passes.invariant.runs c.in-Ok.ensures.runs;
     }
@@ -73,8 +75,11 @@ returns-in-Err-clause-stops g c =
     let all = reverse (settled given first) in
     let more = prefix_same (reverse (pass given ids past)) all (ap reverse (pass_settles given ids first past c.requires.ids at.invariant.so_far c.requires.batch)) in
     subst (λ (t : ℤ). Stops m (IsSettling t first) old (reverse (settled t first)) new c.in-Err.error) same
-    (stop_wider (IsOfPass given ids past) (IsSettling given first) (history_of old) (history_of at.store) (reverse (pass given ids past)) all (history_of new) (failed_of new) (broken_at new) (file_len new) (m.faults (disk_of old)) (m.faults (disk_of at.store)) (m.faults (disk_of new)) c.in-Err.error
-    (settling_frames given ids first past c.requires.ids at.invariant.so_far) at.invariant.runs.history.begun more at.invariant.runs.later c.in-Err.ensures.stops)
+    (stop_wider (IsOfPass given ids past) (IsSettling given first) (history_of old) (history_of at.store) (reverse (pass given ids past)) all (history_of new) (failed_of new) (broken_at old) (broken_at at.store) (broken_at new) (file_len new) (m.faults (disk_of old)) (m.faults (disk_of at.store)) (m.faults (disk_of new)) c.in-Err.error
+    (settling_frames given ids first past c.requires.ids at.invariant.so_far) at.invariant.runs.history.begun more at.invariant.broken at.invariant.runs.later c.in-Err.ensures.stops)
 
 pub returns-in-Err-clause-runs : goal.returns-in-Err-clause-runs
 returns-in-Err-clause-runs g c = runs_through g.D.Disk.meaning c.args.store.now c.passes.store c.make_pass.new.store c.passes.invariant.runs c.in-Err.ensures.runs
+
+pub returns-then-count-clause-within : goal.returns-then-count-clause-within
+returns-then-count-clause-within g c = within_through (history_of c.args.store.now) (history_of c.passes.store) (history_of c.make_pass.new.store) (file_len c.args.store.now) (file_len c.passes.store) (file_len c.make_pass.new.store) c.passes.invariant.within c.in-Ok.ensures.within

@@ -1,4 +1,4 @@
-use Rattle.std.proofs.Common.{List, subst}
+use Rattle.std.proofs.Common.{List, refl, subst}
 use Rattle.std.specs.Prelude.{reverse}
 use Rattle.tf_model.specs.declared.entry.Entry.{Entry}
 use Rattle.tf_store.specs.Words.{broken_at, history_of}
@@ -16,7 +16,7 @@ make_passes-requires-clause-batch g c = subst (λ (h : List Entry). AreBatch (re
 pub returns-in-Err-clause-stops : goal.returns-in-Err-clause-stops
 returns-in-Err-clause-stops g c =
     let old = c.args.store.now in
-    memory_at (history_of old) (history_of old) (reverse (settled c.args.moment (reverse (history_of old)))) (broken_at old) (prefix_self (history_of old)) (settled_goes_on c.args.moment (history_of old)) c.requires.whole
+    memory_at (history_of old) (history_of old) (reverse (settled c.args.moment (reverse (history_of old)))) (broken_at old) (broken_at old) (prefix_self (history_of old)) (settled_goes_on c.args.moment (history_of old)) refl
 
 pub returns-in-Err-clause-runs : goal.returns-in-Err-clause-runs
 returns-in-Err-clause-runs g c = runs_itself g.D.Disk.meaning c.args.store.now
