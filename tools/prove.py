@@ -105,7 +105,7 @@ def prove_all(crates, weights, lanes):
             for name in ready[: len(free)]:
                 waiting.remove(name)
                 lane = free.pop()
-                tell(f"proving {name}, {len(waiting) + 1} crates are left")
+                tell(f"proving {name} ({len(waiting) + 1} left)")
                 running[pool.submit(call, f"{lane}/crates/{name}", "lib", "--jobs", str(jobs))] = name, lane
             done = concurrent.futures.wait(running, return_when=concurrent.futures.FIRST_COMPLETED).done
             for it in done:
