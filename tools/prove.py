@@ -4,9 +4,10 @@
     tools/prove.py PROGRAM
 
 `rt` proves one crate of a copy of the repository at a time, since it locks all that the crate stands on. So each processor gets a
-copy of its own (a lane). A crate is begun, in a free lane, as soon as all that it stands on are proved, those with the most work
-behind them first; one that nothing runs beside gets a job for each processor. `rt` takes the libraries below a crate from the lanes
-that proved them, as it does among all checkouts of a machine; so does `rt run`, which ends it in the program's own folder.
+copy of its own (a lane). A crate is begun, in a free lane, as soon as all that it stands on are proved, and it gets the jobs for
+which processors are free, at least two. Those with the most work behind them come first, and the others run at a lower priority, so
+that they do not hold up what the program waits for. `rt` takes the libraries below a crate from the lanes that proved them, as it does
+among all checkouts of a machine; so does `rt run`, which ends it in the program's own folder.
 """
 import concurrent.futures
 import os
@@ -16,8 +17,9 @@ import sys
 import tempfile
 
 PARTS = ("src", "specs", "proofs")
-# How many jobs a crate gets beside others: more than one, so that a long one does not hold up those above it on one processor.
+# How many jobs a crate gets at least: more than one, so that a long one does not hold up those above it on one processor.
 BESIDE = 2
+LEAST_PRIORITY = 19
 
 
 def read_crates(top):
@@ -76,10 +78,10 @@ def make_lane(top, lane):
                 shutil.copytree(f"{top}/crates/{name}/{part}", f"{lane}/crates/{name}/{part}")
 
 
-def call(folder, *words):
-    """Calls rt in a crate's folder, and returns what it said where it failed."""
+def call(folder, niceness, *words):
+    """Calls rt in a crate's folder at a priority, and returns what it said where it failed."""
     done = subprocess.run(
-        ["rt", *words],
+        ["nice", "-n", str(niceness), "rt", *words],
         cwd=folder,
         stdin=subprocess.DEVNULL,
         stdout=subprocess.PIPE,
@@ -101,12 +103,14 @@ def prove_all(crates, weights, lanes):
     with concurrent.futures.ThreadPoolExecutor(len(lanes)) as pool:
         while waiting or running:
             ready = [it for it in waiting if proved.issuperset(crates[it])]
-            jobs = BESIDE if len(ready) + len(running) > 1 else len(lanes)
+            beside = len(ready) + len(running) - 1
+            jobs = max(BESIDE, len(lanes) - beside)
+            most = max(weights[it] for it in ready + [name for name, _ in running.values()])
             for name in ready[: len(free)]:
                 waiting.remove(name)
-                lane = free.pop()
+                lane, niceness = free.pop(), round(LEAST_PRIORITY * (1 - weights[name] / most))
                 tell(f"proving {name} ({len(waiting) + 1} left)")
-                running[pool.submit(call, f"{lane}/crates/{name}", "lib", "--jobs", str(jobs))] = name, lane
+                running[pool.submit(call, f"{lane}/crates/{name}", niceness, "lib", "--jobs", str(jobs))] = name, lane
             done = concurrent.futures.wait(running, return_when=concurrent.futures.FIRST_COMPLETED).done
             for it in done:
                 name, lane = running.pop(it)
@@ -131,7 +135,7 @@ def main():
         if not failed:
             tell(f"proving and building the program {program}")
             # (with no words it only says that there are none)
-            said = call(folder, "run")
+            said = call(folder, 0, "run")
             failed = None if os.path.isfile(f"{folder}/out/{program}") else said
     if failed:
         print(failed, file=sys.stderr)

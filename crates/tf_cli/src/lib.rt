@@ -8,6 +8,3 @@ mod words;
 
 pub use top::{End, run_top};
 pub use words::file_word;
-
-#[cfg(test)]
-mod tests;

@@ -11,6 +11,3 @@ pub use change::Change;
 pub use device::Disk;
 pub use file::FileDisk;
 pub use memory::MemDisk;
-
-#[cfg(test)]
-mod tests;

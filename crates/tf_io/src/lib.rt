@@ -9,8 +9,6 @@ mod memory;
 mod sink;
 mod source;
 mod standard;
-#[cfg(test)]
-mod tests;
 
 pub use lines::{Lines, ReadError, read_lines};
 pub use memory::{MemSink, MemSource};

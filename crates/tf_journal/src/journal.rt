@@ -1,5 +1,5 @@
 // Appending to a journal.
-ghost use Rattle.std.specs.Prelude.{◌≡◌, ◌<◌, ◌≤◌, ◌+◌, [], ◌∷◌, ◌++◌, List, ℕ, None, is_some, length, IfOk, IfErr, OnOk};
+ghost use Rattle.std.specs.Prelude.{◌≡◌, ◌<◌, ◌≤◌, ◌+◌, [], ◌∷◌, ◌++◌, List, ℕ, None, is_some, length, IfOk, IfErr, OnErr, OnOk};
 ghost use Rattle.tf_model.specs.Causes.{HasCause};
 ghost use Rattle.tf_disk.specs.Disk.{Tells, IsUntouched};
 ghost use Rattle.tf_journal.specs.Frames.{IsBody, reading, whole};
@@ -31,6 +31,7 @@ impl<D: Disk> Journal<D> {
         ensures answer { AppendAnswers (broken_at self.old) (file_len self.old) (length frame.now + 9) (D.meaning.faults (disk_of self.old)) (D.meaning.faults (disk_of self.new)) result }
         ensures broken { broken_at self.new ≡ broken_after (broken_at self.old) result }
         ensures no_call { OnNoCall result (self.new ≡ self.old) }
+        ensures end { OnErr result (file_len self.new ≡ file_len self.old) }
 
         // The frames are those from before it and the new one.
         ensures frames { (frames : List (List ℕ)) → StandsFor D.meaning frames self.old → OnOk result (StandsFor D.meaning (frames ++ frame.now ∷ []) self.new) }

@@ -20,6 +20,3 @@ pub use error::JournalError;
 pub use frame::Frame;
 pub use opening::read_only;
 pub use state::Journal;
-
-#[cfg(test)]
-mod tests;

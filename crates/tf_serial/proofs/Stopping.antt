@@ -1,10 +1,10 @@
 -- Why the way to a whole history ends before it.
-use Rattle.std.proofs.Common.{◌≡◌, ℕ, ◌≤◌, List, [], ◌∷◌, ◌++◌, Option, None, Some, Err, refl, sym, ap, subst, ◌∙◌, arith}
-use Rattle.std.specs.Prelude.{IfErr, Ok, OnOk, Result}
+use Rattle.std.proofs.Common.{◌≡◌, ℕ, ◌+◌, ◌≤◌, ◌^◌, List, [], ◌∷◌, ◌++◌, Option, None, Some, Err, refl, sym, ap, subst, ◌∙◌, arith}
+use Rattle.std.specs.Prelude.{IfErr, Ok, OnErr, OnOk, Result}
 use Rattle.std.proofs.lemmas.List.{append-nil}
 use mathlib.Core.List.{IsPrefix}
 use Rattle.tf_model.specs.declared.entry.Entry.{Entry}
-use Rattle.tf_store.specs.Answers.{CommitAnswers, OnNoCall, SoundAnswer, SubmitAnswers, broken_after, counted, failed_after, frame_size, history_after}
+use Rattle.tf_store.specs.Answers.{CommitAnswers, SoundAnswer, SubmitAnswers, broken_after, counted, failed_after, frame_size, history_after}
 use Rattle.tf_store.specs.declared.error.StoreError.{StoreError}
 use Rattle.tf_store.specs.declared.error.StoreError.TheVariants as store_error
 use Rattle.tf_serial.specs.Frames.{Frames, IsOnly}
@@ -24,7 +24,7 @@ pub stop_wider : (frames wide : Frames) (first mid whole all left failed : List 
 stop_wider frames wide first mid whole all left failed before here broken len faults_first faults_before faults_now store_error.Memory within begins more same le s =
     (wider first mid left [] whole all begins more s.0, s.1 ∙ same)
 stop_wider frames wide first mid whole all left failed before here broken len faults_first faults_before faults_now (store_error.Disk count) within begins more same le s =
-    (wider first mid left failed whole all begins more s.0, within left failed s.1, s.2, s.3, omega (arith, s.4, le), sym same ∙ s.5)
+    (wider first mid left failed whole all begins more s.0, within left failed s.1, s.2, s.3, omega (arith, s.4, le), sym same ∙ s.5, s.6)
 stop_wider frames wide first mid whole all left failed before here broken len faults_first faults_before faults_now (store_error.Broken count) within begins more same le s =
     (record { next = s.0.next; frame = within left s.0.next s.0.frame; part = wider first mid left s.0.next whole all begins more s.0.part }, sym same ∙ s.1, s.2)
 stop_wider frames wide first mid whole all left failed before here broken len faults_first faults_before faults_now (store_error.Full told) within begins more same le s =
@@ -57,12 +57,12 @@ none_next first es left same =
 -- by a store that is not broken
 refused : (first es left failed failed_now : List Entry) (broken_now : Option ℕ) (len len_now number faults_before faults_now : ℕ) (error : StoreError)
     → SoundAnswer len (frame_size es) number faults_before faults_now (Err error) → left ≡ first → broken_now ≡ broken_after None (Err error)
-    → failed_now ≡ failed_after failed es (Err error) → OnNoCall (Err error) (len_now ≡ len)
+    → failed_now ≡ failed_after failed es (Err error) → len_now ≡ len
     → IsStop (IsOnly first es) first (first ++ es) left failed_now None broken_now len_now faults_before faults_now error
 refused first es left failed failed_now broken_now len len_now number faults_before faults_now store_error.Memory answer same breaks fails stays =
     (none_next first es left same, breaks)
 refused first es left failed failed_now broken_now len len_now number faults_before faults_now (store_error.Disk count) answer same breaks fails stays =
-    (subst (IsPart first (first ++ es) left) (sym fails) (whole_next first es left same), (same, fails), breaks, answer.1, answer.0, refl)
+    (subst (IsPart first (first ++ es) left) (sym fails) (whole_next first es left same), (same, fails), breaks, answer.1, answer.0, refl, subst (λ f. len_now + frame_size f ≤ 2 ^ 40) (sym fails) (omega (arith, answer.2, stays)))
 refused first es left failed failed_now broken_now len len_now number faults_before faults_now (store_error.Broken count) answer same breaks fails stays = absurd answer
 refused first es left failed failed_now broken_now len len_now number faults_before faults_now (store_error.Full told) answer same breaks fails stays =
     (record { next = es; frame = (same, refl); part = whole_next first es left same; passes = omega (arith, answer.1, stays) }, answer.0 ∙ sym stays, breaks, refl)
@@ -74,19 +74,12 @@ refused_broken first es left failed count broken_now len faults_before faults_no
     subst (IsStop (IsOnly first es) first (first ++ es) left failed (Some count) broken_now len faults_before faults_now) (sym is)
     (record { next = es; frame = (same, refl); part = whole_next first es left same }, refl, stays)
 
--- what holds where no call was made
-pub no_call : (error : StoreError) (P Q : Type 0) → (P → Q) → OnNoCall (Err error) P → OnNoCall (Err error) Q
-no_call store_error.Memory P Q to p = to p
-no_call (store_error.Disk count) P Q to p = tt
-no_call (store_error.Broken count) P Q to p = to p
-no_call (store_error.Full len) P Q to p = to p
-
 error_is : (error told : StoreError) → ◌≡◌ {A = Result ℕ StoreError} (Err error) (Err told) → error ≡ told
 error_is error told same = cc
 
 pub stop_of_commit : (first es left failed failed_now : List Entry) (broken broken_now : Option ℕ) (len len_now number faults_before faults_now : ℕ) (error : StoreError)
     → CommitAnswers broken len (frame_size es) number faults_before faults_now (Err error) → left ≡ history_after first es (Err error) → broken_now ≡ broken_after broken (Err error)
-    → failed_now ≡ failed_after failed es (Err error) → OnNoCall (Err error) (len_now ≡ len)
+    → failed_now ≡ failed_after failed es (Err error) → len_now ≡ len
     → IsStop (IsOnly first es) first (first ++ es) left failed_now broken broken_now len_now faults_before faults_now error
 stop_of_commit first es left failed failed_now None broken_now len len_now number faults_before faults_now error answers same breaks fails stays =
     refused first es left failed failed_now broken_now len len_now number faults_before faults_now error answers same breaks fails stays
@@ -97,7 +90,7 @@ stop_of_commit first es left failed failed_now (Some count) broken_now len len_n
 -- the same where there may be no entries, and memory may be wanted first
 by_entries : (first es left failed failed_now : List Entry) (broken broken_now : Option ℕ) (len len_now number faults_before faults_now : ℕ) (error : StoreError)
     → SubmitAnswers es broken len number faults_before faults_now (Err error) → left ≡ history_after first es (Err error) → broken_now ≡ broken_after broken (Err error)
-    → failed_now ≡ failed_after failed es (Err error) → OnNoCall (Err error) (len_now ≡ len)
+    → failed_now ≡ failed_after failed es (Err error) → len_now ≡ len
     → IsStop (IsOnly first es) first (first ++ es) left failed_now broken broken_now len_now faults_before faults_now error
 by_entries first [] left failed failed_now broken broken_now len len_now number faults_before faults_now error answers same breaks fails stays =
     subst (IsStop (IsOnly first []) first (first ++ []) left failed_now broken broken_now len_now faults_before faults_now) (sym answers)
@@ -111,13 +104,13 @@ by_entries first (e ∷ es) left failed failed_now broken broken_now len len_now
 by_entries first (e ∷ es) left failed failed_now broken broken_now len len_now number faults_before faults_now (store_error.Full told) answers same breaks fails stays =
     stop_of_commit first (e ∷ es) left failed failed_now broken broken_now len len_now number faults_before faults_now (store_error.Full told) answers same breaks fails stays
 
-pub stop_of_submit : {X : Type 0} (r : Result X StoreError) (first es left failed failed_now : List Entry) (broken broken_now : Option ℕ) (len len_now number faults_before faults_now : ℕ) (P : Type 0)
+pub stop_of_submit : {X : Type 0} (r : Result X StoreError) (first es left failed failed_now : List Entry) (broken broken_now : Option ℕ) (len len_now number faults_before faults_now : ℕ)
     → SubmitAnswers es broken len number faults_before faults_now (counted number r) → left ≡ history_after first es (counted number r) → broken_now ≡ broken_after broken (counted number r)
-    → failed_now ≡ failed_after failed es (counted number r) → (P → len_now ≡ len) → OnNoCall (counted number r) P
+    → failed_now ≡ failed_after failed es (counted number r) → OnErr r (len_now ≡ len)
     → IfErr r (IsStop (IsOnly first es) first (first ++ es) left failed_now broken broken_now len_now faults_before faults_now)
-stop_of_submit (Ok x) first es left failed failed_now broken broken_now len len_now number faults_before faults_now P answers same breaks fails to stays = tt
-stop_of_submit (Err e) first es left failed failed_now broken broken_now len len_now number faults_before faults_now P answers same breaks fails to stays =
-    by_entries first es left failed failed_now broken broken_now len len_now number faults_before faults_now e answers same breaks fails (no_call e P (len_now ≡ len) to stays)
+stop_of_submit (Ok x) first es left failed failed_now broken broken_now len len_now number faults_before faults_now answers same breaks fails stays = tt
+stop_of_submit (Err e) first es left failed failed_now broken broken_now len len_now number faults_before faults_now answers same breaks fails stays =
+    by_entries first es left failed failed_now broken broken_now len len_now number faults_before faults_now e answers same breaks fails stays
 
 -- where it is not refused
 pub submit_grows : {X : Type 0} (r : Result X StoreError) (number : ℕ) (first es left : List Entry) → left ≡ history_after first es (counted number r) → OnOk r (left ≡ first ++ es)

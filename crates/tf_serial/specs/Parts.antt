@@ -48,11 +48,12 @@ pub record IsUnwritten (frames : Frames) (first whole left : List Entry) : Type 
   pub part : IsPart first whole left next
 
 -- Why the way to a whole history ends before it, and what is left then: after a disk fault the entries whose append failed
--- come next. The entries come in these frames. A store that was broken before, at a count of faults, writes none of them.
+-- come next, and their frame would not have made the file longer than 2^40 bytes. The entries come in these frames. A store that
+-- was broken before, at a count of faults, writes none of them.
 abbrev pub IsStop : Frames → List Entry → List Entry → List Entry → List Entry → Option ℕ → Option ℕ → ℕ → ℕ → ℕ → StoreError → Type 0
 IsStop frames first whole left failed before broken len faults_before faults_now store_error.Memory = IsPart first whole left [] × (broken ≡ before)
 IsStop frames first whole left failed before broken len faults_before faults_now (store_error.Disk count) =
-    IsPart first whole left failed × frames left failed × (broken ≡ Some count) × (count ≡ faults_now) × Rose faults_before faults_now × (before ≡ None)
+    IsPart first whole left failed × frames left failed × (broken ≡ Some count) × (count ≡ faults_now) × Rose faults_before faults_now × (before ≡ None) × (len + frame_size failed ≤ 2 ^ 40)
 IsStop frames first whole left failed before broken len faults_before faults_now (store_error.Broken count) =
     IsUnwritten frames first whole left × (before ≡ Some count) × (broken ≡ Some count)
 IsStop frames first whole left failed before broken len faults_before faults_now (store_error.Full told) =

@@ -1,5 +1,5 @@
 // Committing entries.
-ghost use Rattle.std.specs.Prelude.{◌≡◌, ◌≤◌, ◌+◌, ◌++◌, List, ℕ, None, is_some, length, IfOk, OnOk};
+ghost use Rattle.std.specs.Prelude.{◌≡◌, ◌≤◌, ◌+◌, ◌++◌, List, ℕ, None, is_some, length, IfOk, OnErr, OnOk};
 ghost use Rattle.tf_model.specs.declared.entry.Entry.{Entry};
 ghost use Rattle.tf_journal.specs.Crashes.{LeavesOnly};
 ghost use Rattle.tf_event.specs.Entries.{IsBody, spelled_entries};
@@ -46,6 +46,7 @@ impl<D: Disk> Store<D> {
             → LeavesOnly D.meaning (disk_of self.old) (disk_of self.new) (IsBeforeOrAfter (history_of self.old) entries) }
 
         ensures len { OnOk result (file_len self.new ≡ file_len self.old + frame_size entries) }
+        ensures same_len { OnErr result (file_len self.new ≡ file_len self.old) }
         ensures found { found_of self.new ≡ found_of self.old }
         ensures opened { (opened_at self.new ≡ opened_at self.old) × (opened_with self.new ≡ opened_with self.old) }
         ensures later { D.meaning.faults (disk_of self.old) ≤ D.meaning.faults (disk_of self.new) }

@@ -16,10 +16,3 @@ mod submitting;
 pub use error::{OpenError, StoreError};
 pub use laws::{content_is_one, histories_are_taken};
 pub use state::Store;
-
-#[cfg(test)]
-mod commit_tests;
-#[cfg(test)]
-mod submit_tests;
-#[cfg(test)]
-mod tests;

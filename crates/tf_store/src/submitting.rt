@@ -1,5 +1,5 @@
 // Submitting a command.
-ghost use Rattle.std.specs.Prelude.{◌≡◌, ◌≤◌, ◌+◌, ◌++◌, [], ℕ, ℤ, IfOk, OnOk, is_some, length, reverse, take, true};
+ghost use Rattle.std.specs.Prelude.{◌≡◌, ◌≤◌, ◌+◌, ◌++◌, [], ℕ, ℤ, IfOk, OnErr, OnOk, is_some, length, reverse, take, true};
 ghost use Rattle.std.specs.List.{AllByRecursion};
 ghost use Rattle.tf_journal.specs.Crashes.{LeavesOnly};
 ghost use Rattle.tf_event.specs.Entries.{FitsEntry};
@@ -54,6 +54,7 @@ impl<D: Disk> Store<D> {
             → LeavesOnly D.meaning (disk_of self.old) (disk_of self.new) (IsBeforeOrAfter (history_of self.old) entries) }
 
         ensures len { OnOk result (file_len self.new ≡ file_len self.old + added_size (entries_of (history_of self.old) actor now command.now)) }
+        ensures same_len { OnErr result (file_len self.new ≡ file_len self.old) }
         ensures found { found_of self.new ≡ found_of self.old }
         ensures opened { (opened_at self.new ≡ opened_at self.old) × (opened_with self.new ≡ opened_with self.old) }
         ensures later { D.meaning.faults (disk_of self.old) ≤ D.meaning.faults (disk_of self.new) }
@@ -92,6 +93,7 @@ impl<D: Disk> Store<D> {
         ensures any_moment { StandsFor D.meaning (history_of self.old) (file_len self.old) (disk_of self.old)
             → LeavesOnly D.meaning (disk_of self.old) (disk_of self.new) (IsBeforeOrAfter (history_of self.old) entries) }
         ensures len { OnOk result (file_len self.new ≡ file_len self.old + added_size entries) }
+        ensures same_len { OnErr result (file_len self.new ≡ file_len self.old) }
         ensures found { found_of self.new ≡ found_of self.old }
         ensures opened { (opened_at self.new ≡ opened_at self.old) × (opened_with self.new ≡ opened_with self.old) }
         ensures later { D.meaning.faults (disk_of self.old) ≤ D.meaning.faults (disk_of self.new) }

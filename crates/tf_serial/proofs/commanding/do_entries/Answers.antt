@@ -1,9 +1,8 @@
-use Rattle.std.proofs.Common.{◌≡◌, ◌++◌, ℤ, length, ap, subst, rules, to_z, of_z, w64}
+use Rattle.std.proofs.Common.{◌≡◌, ◌++◌, ℤ, length, subst, rules, to_z, of_z, w64}
 use Rattle.std.specs.Prelude.{IfErr, OnOk, reverse}
 use Rattle.std.proofs.lemmas.Int.{to_z-of_z}
-use Rattle.tf_journal.specs.Standing as journal
 use Rattle.tf_store.specs.Commands.{entries_of}
-use Rattle.tf_store.specs.Words.{broken_at, disk_of, failed_of, file_len, history_of, journal_of}
+use Rattle.tf_store.specs.Words.{broken_at, disk_of, failed_of, file_len, history_of}
 use Rattle.tf_serial.specs.Frames.{IsOnly}
 use Rattle.tf_serial.specs.Parts.{Stops}
 use Rattle.tf_serial.proofs.GoingOn.{runs_submit}
@@ -36,8 +35,8 @@ returns-clause-stops g c =
     let same : given ≡ c.args.moment = to_z-of_z w64 c.args.moment (search rules) in
     let es = entries_of (history_of old) 0 given c.args.command.now in
     subst (λ (ms : ℤ). IfErr c.submit.result (Stops m (IsOnly (history_of old) (entries_of (history_of old) 0 ms c.args.command.now)) old (history_of old ++ entries_of (history_of old) 0 ms c.args.command.now) new)) same
-    (stop_of_submit c.submit.result (history_of old) es (history_of new) (failed_of old) (failed_of new) (broken_at old) (broken_at new) (file_len old) (file_len new) (length (history_of old ++ es)) (m.faults (disk_of old)) (m.faults (disk_of new)) (journal_of new ≡ journal_of old)
-    c.submit.ensures.answer c.submit.ensures.history c.submit.ensures.broken c.submit.ensures.failed (λ same. ap journal.file_len same) c.submit.ensures.no_call)
+    (stop_of_submit c.submit.result (history_of old) es (history_of new) (failed_of old) (failed_of new) (broken_at old) (broken_at new) (file_len old) (file_len new) (length (history_of old ++ es)) (m.faults (disk_of old)) (m.faults (disk_of new))
+    c.submit.ensures.answer c.submit.ensures.history c.submit.ensures.broken c.submit.ensures.failed c.submit.ensures.same_len)
 
 pub returns-clause-runs : goal.returns-clause-runs
 returns-clause-runs g c =

@@ -2,17 +2,16 @@ use Rattle.std.proofs.Common.{◌≡◌, ◌∷◌, [], ◌++◌, List, length, 
 use Rattle.tf_model.specs.declared.entry.Entry.{Entry}
 use Rattle.tf_event.specs.Entries.{IsBody}
 use Rattle.tf_event.specs.declared.grammar.Grammar.TheVariants.{First}
-use Rattle.tf_journal.specs.Standing as journal
 use Rattle.tf_core.specs.Legal.{AreTakenAfter}
 use Rattle.tf_store.specs.Answers.{frame_size}
-use Rattle.tf_store.specs.Words.{broken_at, disk_of, failed_of, file_len, history_of, journal_of}
+use Rattle.tf_store.specs.Words.{broken_at, disk_of, failed_of, file_len, history_of}
 use Rattle.std.specs.Prelude.{IfErr}
 use Rattle.tf_store.specs.declared.error.StoreError.TheVariants as store_error
 use Rattle.tf_serial.specs.Frames.{IsOnly}
 use Rattle.tf_serial.specs.Parts.{Stops}
 use Rattle.tf_serial.proofs.GoingOn.{runs_entry, runs_itself, runs_same}
 use Rattle.tf_serial.proofs.Prefixes.{prefix_more, prefix_self}
-use Rattle.tf_serial.proofs.Stopping.{if_memory, memory_at, no_call, stop_of_commit, stuck_commit}
+use Rattle.tf_serial.proofs.Stopping.{if_memory, memory_at, stop_of_commit, stuck_commit}
 use Rattle.tf_serial.specs.Parts.{IsWithin}
 use Rattle.std.specs.Prelude.{OnOk, Result, ℕ}
 use Rattle.tf_store.specs.declared.error.StoreError.{StoreError}
@@ -41,8 +40,7 @@ returns-in-Err-clause-stops g c =
     let error = c.in-Err.error in
     subst (λ (l : List Entry). Stops m (IsOnly (history_of old) l) old (history_of old ++ l) new error) c.in_ok-entries.ensures
     (stop_of_commit (history_of old) es (history_of new) (failed_of old) (failed_of new) (broken_at old) (broken_at new) (file_len old) (file_len new) (length (history_of old ++ es)) (m.faults (disk_of old)) (m.faults (disk_of new)) error
-    c.in-Err.ensures.answer c.in-Err.ensures.history c.in-Err.ensures.broken c.in-Err.ensures.failed
-    (no_call error (journal_of new ≡ journal_of old) (file_len new ≡ file_len old) (λ same. ap journal.file_len same) c.in-Err.ensures.no_call))
+    c.in-Err.ensures.answer c.in-Err.ensures.history c.in-Err.ensures.broken c.in-Err.ensures.failed c.in-Err.ensures.same_len)
 
 pub returns-in-Err-clause-runs : goal.returns-in-Err-clause-runs
 returns-in-Err-clause-runs g c = runs_same g.D.Disk.meaning c.args.store.now c.commit.new.self c.in-Err.ensures.history c.in-Err.ensures.opened c.in-Err.ensures.found c.in-Err.ensures.later

@@ -1,7 +1,7 @@
-// Each public call on its happy path, and faults in mid-stream.
-use crate::{MemSink, MemSource, ReadError, WriteFault, read_lines, write_out};
+// Sources and sinks: lines, and faults in mid-stream.
 use std::alloc::Global;
-use std::test::Fail;
+use std::test::*;
+use tf_io::{MemSink, MemSource, ReadError, WriteFault, read_lines, write_out};
 
 #[test]
 fn cuts_at_newlines(rt: HostRuntime) -> Result<(), Fail> {

@@ -1,8 +1,8 @@
 // Opening files over a disk in memory.
-use super::*;
 use std::alloc::Global;
-use std::test::Fail;
-use tf_disk::MemDisk;
+use std::test::*;
+use tf_disk::{Disk, MemDisk};
+use tf_store::{OpenError, Store};
 
 // A whole file with a frame whose body spells no entries.
 const UNSPELLED: &[u8] = b"TFJRNL1\n\x01\x03\0\0\0\0\0\0\0abc\0";

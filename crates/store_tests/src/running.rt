@@ -1,8 +1,8 @@
-// What no script shows: words, and sources, sinks and disks that fail.
-use super::*;
+// Runs: words, and sources, sinks and disks that fail.
 use std::alloc::Global;
-use std::test::Fail;
-use tf_disk::MemDisk;
+use std::test::*;
+use tf_cli::{End, run_top};
+use tf_disk::{Disk, MemDisk};
 use tf_io::{MemSink, MemSource};
 
 const SCRIPT: &[u8] =

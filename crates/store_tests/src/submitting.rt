@@ -1,10 +1,10 @@
 // Submitting commands over a disk in memory.
-use crate::*;
 use std::alloc::Global;
-use std::test::Fail;
+use std::test::*;
 use tf_command::read_command;
 use tf_disk::{Disk, MemDisk};
 use tf_reply::Reply;
+use tf_store::{Store, StoreError};
 
 const INDEX: &[u8] =
     b"{\"op\":\"create_index\",\"index\":\"s\",\"mappings\":{\"properties\":{\"k\":{\"type\":\"keyword\"}}}}";

@@ -1,10 +1,10 @@
 // A journal over a disk in memory.
 ghost use Rattle.std.specs.Prelude.{◌≡◌, IfOk};
 
-use super::*;
 use std::alloc::Global;
-use std::test::Fail;
+use std::test::*;
 use tf_disk::{Disk, MemDisk};
+use tf_journal::{Frame, Journal, JournalError, read_only};
 
 // Two frames, "abc" and "z", and a closed gate.
 const FILE: &[u8] = b"TFJRNL1\n\x01\x03\0\0\0\0\0\0\0abc\x01\x01\0\0\0\0\0\0\0z\0";

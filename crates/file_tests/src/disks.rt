@@ -1,7 +1,7 @@
 // The two disks, call by call.
-use super::*;
 use std::fs;
-use std::test::Fail;
+use std::test::*;
+use tf_disk::{Disk, FileDisk, MemDisk};
 
 // Whether a read from a place on gives exactly these bytes.
 fn reads<D: Disk>(disk: &mut D, place: u64, want: &[u8]) -> bool {

@@ -1,9 +1,9 @@
 // Committing over a disk in memory.
-use crate::*;
 use std::alloc::Global;
-use std::test::Fail;
+use std::test::*;
 use tf_disk::{Disk, MemDisk};
 use tf_event::decode;
+use tf_store::{Store, StoreError};
 
 // An index `s` of one shard with a keyword `k` and a long `v`, at 1000 by actor 0.
 const INDEX: &[u8] =
@@ -22,7 +22,7 @@ fn commit_body<D: Disk>(
     let entries = decode(alloc, body)?.ok_or("no body")?;
     match entries.as_slice() {
         [entry] => {
-            if !store.core.allowed(entry)? {
+            if !store.core().allowed(entry)? {
                 return Err("not taken".into());
             }
         }
