@@ -1,0 +1,4 @@
+pub mod Created
+pub mod Ids
+pub mod Parts
+pub mod Seen
