@@ -3,6 +3,7 @@ pub mod Groupings
 pub mod Keys
 pub mod Lists
 pub mod Names
+pub mod Numbers
 pub mod Rows
 pub mod Shards
 pub mod Values

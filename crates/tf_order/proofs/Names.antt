@@ -34,7 +34,7 @@ number_flipped a b = grind (arith, nat_tests)
 name_flipped : (d e : Doc) → has_name_of d e ≡ has_name_of e d
 name_flipped d e = λ i. number_flipped d.index e.index i && (number_flipped d.shard e.shard i && number_flipped d.seq e.seq i)
 
-itself : (a : ℕ) → nat_eq a a ≡ true
+pub itself : (a : ℕ) → nat_eq a a ≡ true
 itself a = grind (arith, nat_tests)
 
 same_name : (d e : Doc) → d.index ≡ e.index → d.shard ≡ e.shard → d.seq ≡ e.seq → has_name_of d e ≡ true
@@ -159,7 +159,7 @@ latest_rows_in_any_order sources c k docs others moved among once =
 same_numbers : (a b c : ℕ) → nat_eq a b ≡ true → nat_eq a c ≡ true → b ≡ c
 same_numbers a b c e f = grind (arith, nat_tests)
 
-and_both : (a b : Bool) → (a && b) ≡ true → (a ≡ true) × (b ≡ true)
+pub and_both : (a b : Bool) → (a && b) ≡ true → (a ≡ true) × (b ≡ true)
 and_both true b e = (refl, e)
 and_both false b e = absurd (true≢false (sym e))
 

@@ -10,7 +10,8 @@ use Rattle.std.proofs.lemmas.Map.Keys.{IsDistinct-head, IsDistinct-tail}
 use Rattle.std.specs.List.{AllByRecursion, IsDistinct, list_any, range_with_len}
 use Rattle.tf_model.specs.declared.doc.Doc.{Doc}
 use Rattle.tf_order.specs.Laws.{ShardsHoldTheSources, FirstsOfAShard}
-use Rattle.tf_order.specs.Shards.{is_among, is_in_shard, shards_of, runs_of}
+use Rattle.tf_history.specs.LegalEntries.{is_in_shard}
+use Rattle.tf_order.specs.Shards.{is_among, shards_of, runs_of}
 use Rattle.tf_order.proofs.Lists.{AreApart, IsPermutation-filter_by_tests, IsPermutation-flat_map_each, filter_same, same_list}
 
 -- ---- the first documents
@@ -22,7 +23,7 @@ firsts_of_a_shard index shard n docs =
     ∙ take_at front (filter p (drop n docs)) (count_by p (take n docs)) (length-filter p (take n docs)))
 
 -- ---- by index
-same_number : (a b : ℕ) → nat_eq a b ≡ true → a ≡ b
+pub same_number : (a b : ℕ) → nat_eq a b ≡ true → a ≡ b
 same_number a b e = grind (arith, nat_tests)
 
 other_sources : (x i : ℕ) (js : List ℕ) → nat_eq x i ≡ true → AllByRecursion (λ j. nat_eq i j ≡ false) js → list_any (nat_eq x) js ≡ false

@@ -1,5 +1,5 @@
 -- What does not hang on the order of documents: each law is of documents and of the same documents in another order.
-use Rattle.std.specs.Prelude.{◌≡◌, ◌<◌, ℕ, ℤ, nat_eq, true, List, All, count_by, filter, length, take, Option}
+use Rattle.std.specs.Prelude.{◌≡◌, ◌∷◌, ◌++◌, ◌<◌, [], ℕ, ℤ, nat_eq, true, List, All, count_by, filter, length, take, Option}
 use Rattle.std.specs.List.{IsDistinct, flat_map, list_any}
 use Rattle.std.specs.List.Sorted.{IsPermutation}
 use Rattle.tf_model.specs.declared.value.Value.{Value}
@@ -13,8 +13,9 @@ use Rattle.tf_model.specs.Keys.{all_keys}
 use Rattle.tf_model.specs.Latest.{latest_row}
 use Rattle.tf_model.specs.Rows.{greatest, least, pivot_row, sum_range, total}
 use Rattle.tf_model.specs.Scratch.{is_pivot, scratch}
-use Rattle.tf_order.specs.Names.{AreAmong, AreNamedOnce}
-use Rattle.tf_order.specs.Shards.{is_among, is_in_shard, runs_of}
+use Rattle.tf_order.specs.Names.{AreAmong, AreNamedOnce, AreNumbered, IsNumberedAfter}
+use Rattle.tf_history.specs.LegalEntries.{is_in_shard}
+use Rattle.tf_order.specs.Shards.{is_among, runs_of}
 
 -- ---- documents
 -- the same documents count
@@ -79,6 +80,15 @@ abbrev pub GroupingsInAnyOrder : Type 0
 GroupingsInAnyOrder =
     (sources : List ℕ) (c : Config) (bound cutoff : Option ℤ) (docs others : List Doc) → IsPermutation docs others → AreAmong sources docs → AreNamedOnce docs
     → scratch sources c bound cutoff docs ≡ scratch sources c bound cutoff others
+
+-- ---- names
+-- documents that are numbered shard by shard have names of their own
+abbrev pub NumberedAreNamedOnce : Type 0
+NumberedAreNamedOnce = (docs : List Doc) → AreNumbered docs → AreNamedOnce docs
+
+-- one more that is numbered after them
+abbrev pub OneMoreIsNumbered : Type 0
+OneMoreIsNumbered = (docs : List Doc) (d : Doc) → AreNumbered docs → IsNumberedAfter docs d → AreNumbered (docs ++ d ∷ [])
 
 -- ---- shards
 -- the documents of some indices, each named once, are those of their shards, one shard after the other, where no document is in a

@@ -1,11 +1,8 @@
 -- Documents shard by shard.
-use Rattle.std.specs.Prelude.{ℕ, Bool, ◌&&◌, nat_eq, List, filter, map}
+use Rattle.std.specs.Prelude.{ℕ, Bool, nat_eq, List, filter, map}
 use Rattle.std.specs.List.{flat_map, list_any, range_with_len}
 use Rattle.tf_model.specs.declared.doc.Doc.{Doc}
-
--- whether a document is in a shard of an index
-abbrev pub is_in_shard : ℕ → ℕ → Doc → Bool
-is_in_shard index shard d = nat_eq index d.index && nat_eq shard d.shard
+use Rattle.tf_history.specs.LegalEntries.{is_in_shard}
 
 -- whether a document is in one of these indices
 abbrev pub is_among : List ℕ → Doc → Bool

@@ -4,7 +4,7 @@
 //! function here is a law over the definitions of tf_model: it does nothing, and its contract is the law.
 #![tactic(auto)]
 
-ghost use Rattle.tf_order.specs.Laws.{ChangedInAnyOrder, CountedInAnyOrder, FirstsOfAShard, FitsInAnyOrder, GroupingsInAnyOrder, KeysInAnyOrder, LatestRowsInAnyOrder, PivotRowsInAnyOrder, PivotsInAnyOrder, ShardsHoldTheSources, SumRangesInAnyOrder, ValuesInAnyOrder, WindowsInAnyOrder};
+ghost use Rattle.tf_order.specs.Laws.{ChangedInAnyOrder, CountedInAnyOrder, FirstsOfAShard, FitsInAnyOrder, GroupingsInAnyOrder, KeysInAnyOrder, LatestRowsInAnyOrder, NumberedAreNamedOnce, OneMoreIsNumbered, PivotRowsInAnyOrder, PivotsInAnyOrder, ShardsHoldTheSources, SumRangesInAnyOrder, ValuesInAnyOrder, WindowsInAnyOrder};
 
 /// Whatever their order, the same documents count.
 #[tactic(auto, using(crate::proofs::Rows::counted_in_any_order))]
@@ -69,6 +69,18 @@ pub fn pivots_in_any_order()
 #[tactic(auto, using(crate::proofs::Groupings::groupings_in_any_order))]
 pub fn groupings_in_any_order()
     ensures { GroupingsInAnyOrder }
+{}
+
+/// Documents that are numbered shard by shard, as they are written, have names of their own.
+#[tactic(auto, using(crate::proofs::Numbers::numbered_are_named_once))]
+pub fn numbered_are_named_once()
+    ensures { NumberedAreNamedOnce }
+{}
+
+/// So they stay with one more whose number is how many of them are in its shard.
+#[tactic(auto, using(crate::proofs::Numbers::one_more_is_numbered))]
+pub fn one_more_is_numbered()
+    ensures { OneMoreIsNumbered }
 {}
 
 /// The documents of some indices in the order of writing are those of their shards, one shard after the other, in another

@@ -44,8 +44,22 @@ pub fn make_all_room(alloc: Global, parts: &mut Parts, ids: &List<Text>) -> Resu
     Ok(())
 }
 
-// Takes out the ids that are entered ahead.
-fn forget(parts: &mut Parts)
+/// Makes room for one document more, behind those for which there is room. After want of memory the room is as before.
+pub fn make_more_room(alloc: Global, parts: &mut Parts, id: &Text) -> Result<(), OutOfMemory>
+    requires whole { IsWhole parts.old }
+    requires free { number_of id.now (docs_of parts.old) ≡ None }
+    requires new { list_any (same_id id.now) (spare_of parts.old) ≡ false }
+    ensures whole { IsWhole parts.new }
+    ensures same { HasTheSame parts.old parts.new }
+    ensures ok { OnOk result (spare_of parts.new ≡ spare_of parts.old ++ id.now ∷ []) }
+    ensures err { OnErr result (spare_of parts.new ≡ spare_of parts.old) }
+{
+    seal(alloc, parts)?;
+    enter(alloc, parts, id)
+}
+
+/// Takes out the ids that are entered ahead.
+pub fn forget(parts: &mut Parts)
     requires { IsWhole parts.old }
     ensures whole { IsWhole parts.new }
     ensures same { HasTheSame parts.old parts.new }
@@ -62,6 +76,7 @@ fn enter(alloc: Global, parts: &mut Parts, id: &Text) -> Result<(), OutOfMemory>
     ensures whole { IsWhole parts.new }
     ensures same { HasTheSame parts.old parts.new }
     ensures ok { OnOk result (spare_of parts.new ≡ spare_of parts.old ++ id.now ∷ []) }
+    ensures err { OnErr result (spare_of parts.new ≡ spare_of parts.old) }
 {
     let id = id.copy(alloc)?;
     parts

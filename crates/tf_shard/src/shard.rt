@@ -1,12 +1,13 @@
 // Shards.
-ghost use Rattle.std.specs.Prelude.{◌≡◌, ◌≢◌, ◌<◌, ◌≤◌, ◌-ℤ◌, [], Err, IfOk, IsTrue, OnOk, length, pos, slice_index_or, take};
+ghost use Rattle.std.specs.Prelude.{◌≡◌, ◌≢◌, ◌<◌, ◌≤◌, ◌-ℤ◌, ◌∷◌, ◌++◌, [], Err, IfOk, IsTrue, None, OnErr, OnOk, false, length, pos, slice_index_or, take};
 ghost use Rattle.std.specs.Arc.{arc_value};
+ghost use Rattle.std.specs.List.{list_any};
 ghost use Rattle.tf_shard.specs.Created.{IsCreated, is_next, left_after, most};
-ghost use Rattle.tf_shard.specs.Ids.{AreNew, number_of};
+ghost use Rattle.tf_shard.specs.Ids.{AreNew, number_of, same_id};
 ghost use Rattle.tf_shard.specs.Parts.{IsWhole, docs_of, spare_of};
 ghost use Rattle.tf_shard.specs.declared.error.ShardError.TheVariants.{Memory};
 
-use crate::entering::{make_all_room, make_room};
+use crate::entering::{forget, make_all_room, make_more_room, make_room};
 use crate::error::ShardError;
 use crate::parts::{Parts, append, no_parts, number_in};
 use std::alloc::Global;
@@ -73,6 +74,26 @@ impl Shard {
         ensures spare { OnOk result (self.new.spare ≡ ids.now) }
     {
         make_all_room(alloc, &mut self.parts, ids)
+    }
+
+    /// Makes room for one document more, which is to come behind those for which there is room. No document has its id, and
+    /// none of those ids is the same. After `OutOfMemory` everything is as before.
+    pub fn reserve_one(&mut self, alloc: Global, id: &Text) -> Result<(), OutOfMemory>
+        requires free { number_of id.now self.old.docs ≡ None }
+        requires new { list_any (same_id id.now) self.old.spare ≡ false }
+        ensures docs { self.new.docs ≡ self.old.docs }
+        ensures ok { OnOk result (self.new.spare ≡ self.old.spare ++ id.now ∷ []) }
+        ensures err { OnErr result (self.new.spare ≡ self.old.spare) }
+    {
+        make_more_room(alloc, &mut self.parts, id)
+    }
+
+    /// Gives up the room for documents that did not come. Takes no memory.
+    pub fn clear_spare(&mut self)
+        ensures docs { self.new.docs ≡ self.old.docs }
+        ensures spare { self.new.spare ≡ [] }
+    {
+        forget(&mut self.parts);
     }
 
     /// The documents as they are now. They stay so, whatever is created later. `OutOfMemory` comes where no memory is
