@@ -5,5 +5,6 @@ pub mod Lists
 pub mod Names
 pub mod Numbers
 pub mod Rows
+pub mod Runs
 pub mod Shards
 pub mod Values

@@ -1,5 +1,5 @@
 -- What does not hang on the order of documents: each law is of documents and of the same documents in another order.
-use Rattle.std.specs.Prelude.{◌≡◌, ◌∷◌, ◌++◌, ◌<◌, [], ℕ, ℤ, nat_eq, true, List, All, count_by, filter, length, take, Option}
+use Rattle.std.specs.Prelude.{◌≡◌, ◌∷◌, ◌++◌, ◌<◌, [], ℕ, ℤ, nat_eq, true, List, All, count_by, filter, length, map, take, Option}
 use Rattle.std.specs.List.{IsDistinct, flat_map, list_any}
 use Rattle.std.specs.List.Sorted.{IsPermutation}
 use Rattle.tf_model.specs.declared.value.Value.{Value}
@@ -15,7 +15,7 @@ use Rattle.tf_model.specs.Rows.{greatest, least, pivot_row, sum_range, total}
 use Rattle.tf_model.specs.Scratch.{is_pivot, scratch}
 use Rattle.tf_order.specs.Names.{AreAmong, AreNamedOnce, AreNumbered, IsNumberedAfter}
 use Rattle.tf_history.specs.LegalEntries.{is_in_shard}
-use Rattle.tf_order.specs.Shards.{is_among, runs_of}
+use Rattle.tf_order.specs.Shards.{cut_to, is_among, runs_of}
 
 -- ---- documents
 -- the same documents count
@@ -103,3 +103,9 @@ abbrev pub FirstsOfAShard : Type 0
 FirstsOfAShard =
     (index shard n : ℕ) (docs : List Doc)
     → filter (is_in_shard index shard) (take n docs) ≡ take (count_by (is_in_shard index shard) (take n docs)) (filter (is_in_shard index shard) docs)
+
+-- the runs of all documents, cut to the lengths that those of the first documents had, are those of the first documents
+abbrev pub RunsAreToldByTheirLengths : Type 0
+RunsAreToldByTheirLengths =
+    (count : ℕ → ℕ) (sources : List ℕ) (n : ℕ) (docs : List Doc)
+    → cut_to (map length (runs_of count sources (take n docs))) (runs_of count sources docs) ≡ runs_of count sources (take n docs)

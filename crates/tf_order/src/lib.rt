@@ -4,7 +4,7 @@
 //! function here is a law over the definitions of tf_model: it does nothing, and its contract is the law.
 #![tactic(auto)]
 
-ghost use Rattle.tf_order.specs.Laws.{ChangedInAnyOrder, CountedInAnyOrder, FirstsOfAShard, FitsInAnyOrder, GroupingsInAnyOrder, KeysInAnyOrder, LatestRowsInAnyOrder, NumberedAreNamedOnce, OneMoreIsNumbered, PivotRowsInAnyOrder, PivotsInAnyOrder, ShardsHoldTheSources, SumRangesInAnyOrder, ValuesInAnyOrder, WindowsInAnyOrder};
+ghost use Rattle.tf_order.specs.Laws.{ChangedInAnyOrder, CountedInAnyOrder, FirstsOfAShard, FitsInAnyOrder, GroupingsInAnyOrder, KeysInAnyOrder, LatestRowsInAnyOrder, NumberedAreNamedOnce, OneMoreIsNumbered, PivotRowsInAnyOrder, PivotsInAnyOrder, RunsAreToldByTheirLengths, ShardsHoldTheSources, SumRangesInAnyOrder, ValuesInAnyOrder, WindowsInAnyOrder};
 
 /// Whatever their order, the same documents count.
 #[tactic(auto, using(crate::proofs::Rows::counted_in_any_order))]
@@ -94,4 +94,11 @@ pub fn shards_hold_the_sources()
 #[tactic(auto, using(crate::proofs::Shards::firsts_of_a_shard))]
 pub fn firsts_of_a_shard()
     ensures { FirstsOfAShard }
+{}
+
+/// Runs of shards are told by their lengths: those of all documents, cut to the lengths that they had when there were fewer,
+/// are as they were then.
+#[tactic(auto, using(crate::proofs::Runs::runs_are_told_by_their_lengths))]
+pub fn runs_are_told_by_their_lengths()
+    ensures { RunsAreToldByTheirLengths }
 {}
