@@ -1,0 +1,4 @@
+pub mod Filling
+pub mod Leaving
+pub mod RowLaws
+pub mod Duty
