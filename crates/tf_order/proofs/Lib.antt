@@ -8,3 +8,4 @@ pub mod Rows
 pub mod Runs
 pub mod Shards
 pub mod Values
+mod Example
