@@ -1,5 +1,5 @@
 -- Prepared entries that are applied one after the other.
-use Rattle.std.proofs.Common.{◌≡◌, ℕ, zero, suc, ◌+◌, ◌^◌, ◌<◌, ◌≤◌, Bool, true, false, cond, List, [], ◌∷◌, ◌++◌, length, map, reverse, get_or, arith, refl, sym, ap, ◌∙◌, subst, length-append}
+use Rattle.std.proofs.Common.{◌≡◌, ℕ, zero, suc, ◌+◌, ◌^◌, ◌<◌, ◌≤◌, Bool, true, false, cond, List, [], ◌∷◌, ◌++◌, length, map, reverse, get_or, arith, refl, sym, ap, ◌∙◌, subst, append-nil, length-append}
 use Rattle.std.specs.Prelude.{slice_set, vec_len, vec_capacity}
 use Rattle.std.specs.Arc.{arc_value}
 use Rattle.std.specs.Global.{Vec}
@@ -19,17 +19,18 @@ use Rattle.tf_core.specs.declared.ready.Prepared.{Prepared}
 use Rattle.tf_core.specs.declared.ready.Step.{Step}
 use Rattle.tf_core.specs.declared.ready.Step.TheVariants as step
 use Rattle.tf_core.specs.declared.transform.Transform.{Transform}
-use Rattle.tf_core.specs.Chain.{AreSteps, HasRowRoom, PutHas, entries_in, index_count, doc_count, put_count, puts, row_count, rows_by, rows_in, rows_to}
+use Rattle.tf_core.specs.Chain.{ArePlaced, AreSteps, HasRowRoom, IsPlaced, Paged, PutHas, all_paged, entries_in, index_count, doc_count, paged, paged_by, put_count, puts}
 use Rattle.tf_core.specs.Ids.{all_docs}
 use Rattle.tf_core.specs.Kept.{entry_of, past_in}
 use Rattle.tf_core.specs.Late.{after_write}
 use Rattle.tf_core.specs.Legal.{AreTaken}
 use Rattle.tf_core.specs.Rooms.{CanChange, CanStep}
 use Rattle.tf_core.specs.Standing.{Applied, IsReady, Stands, shared}
-use Rattle.tf_core.specs.Steps.{Changed, IsSmall, Stepped, added, docs_of, more_rows}
+use Rattle.tf_core.specs.Steps.{Changed, IsSmall, Stepped, added, docs_of}
 use Rattle.tf_core.specs.Summary.{IsFew}
 use Rattle.tf_core.specs.Table.{is_other, place_in}
 use Rattle.tf_core.proofs.Changes.{put_stays}
+use Rattle.tf_core.proofs.RowRoom.{all_behind, all_front}
 use Rattle.tf_core.proofs.StandsMore.{IsThere, stands_more, step_there}
 use Rattle.tf_core.proofs.Tables.{all_filter, all_map, all_set, all_weaker, at_place, same_itself}
 
@@ -64,7 +65,6 @@ small_of n low t h = record {
   pages = omega (arith, h.pages, low);
   processed = omega (arith, h.processed, low);
   indexed = omega (arith, h.indexed, low);
-  ascending = h.ascending;
 }
 
 pub all_small : (entries : Vec Kept) (indices : List SourceIndex) (docs : List Doc) (ts : List Transform) → Stands (past_in entries.items) indices docs ts → AllByRecursion IsSmall ts
@@ -73,55 +73,32 @@ all_small entries indices docs ts stands =
     all_weaker (IsFew (length (past_in entries.items))) IsSmall (small_of (length (past_in entries.items)) low) ts stands.few
 
 -- ---- room for rows
-by_same : (b : Bool) (n : ℕ) → cond b n 0 ≤ n
-by_same true n = omega arith
-by_same false n = omega arith
+fewer : (p : Prepared) (steps : List Prepared) (t : Transform) → HasRowRoom (all_paged (p ∷ steps)) t → HasRowRoom (all_paged steps) t
+fewer p steps t h = all_behind (IsPlaced t.id t.rows.places) (paged p.step) (all_paged steps) h
 
-some_more : (id : List ℕ) (s : Step) (to all : ℕ) → to ≤ all → rows_by id s + to ≤ rows_in s + all
-some_more id (step.Index index) to all h = omega (arith, h)
-some_more id (step.Write doc) to all h = omega (arith, h)
-some_more id (step.Put t) to all h = omega (arith, h)
-some_more id (step.Delete other) to all h = omega (arith, h)
-some_more id (step.Change other by) to all h = omega (arith, h, by_same (is_same id other) (more_rows by))
+room_at : (pages : List Paged) (ts : List Transform) (i : ℕ) (x : Transform) → i < length ts → AllByRecursion (HasRowRoom pages) ts → HasRowRoom pages (get_or ts i x)
+room_at pages [] i x low h = absurd (omega (arith, low))
+room_at pages (t ∷ ts) zero x low h = h.0
+room_at pages (t ∷ ts) (suc i) x low h = room_at pages ts i x (omega (arith, low)) h.1
 
-to_some : (id : List ℕ) (steps : List Prepared) → rows_to id steps ≤ row_count steps
-to_some id [] = omega arith
-to_some id (p ∷ steps) = some_more id p.step (rows_to id steps) (row_count steps) (to_some id steps)
-
-fewer : (p : Prepared) (steps : List Prepared) (t : Transform) → HasRowRoom (p ∷ steps) t → HasRowRoom steps t
-fewer p steps t h = omega (arith, h)
-
-put_fewer : (n m : ℕ) (s : Step) → n ≤ m → PutHas m s → PutHas n s
-put_fewer n m (step.Index index) low h = tt
-put_fewer n m (step.Write doc) low h = tt
-put_fewer n m (step.Put t) low h = omega (arith, h, low)
-put_fewer n m (step.Delete id) low h = tt
-put_fewer n m (step.Change id by) low h = tt
-
-puts_fewer : (n m : ℕ) → n ≤ m → (steps : List Prepared) → AllByRecursion (λ (p : Prepared). PutHas m p.step) steps → AllByRecursion (λ (p : Prepared). PutHas n p.step) steps
-puts_fewer n m low [] h = tt
-puts_fewer n m low (p ∷ steps) h = (put_fewer n m p.step low h.0, puts_fewer n m low steps h.1)
-
-room_at : (steps : List Prepared) (ts : List Transform) (i : ℕ) (x : Transform) → i < length ts → AllByRecursion (HasRowRoom steps) ts → HasRowRoom steps (get_or ts i x)
-room_at steps [] i x low h = absurd (omega (arith, low))
-room_at steps (t ∷ ts) zero x low h = h.0
-room_at steps (t ∷ ts) (suc i) x low h = room_at steps ts i x (omega (arith, low)) h.1
-
-changed_room : (w : ℕ) (p : Prepared) (id : List ℕ) (by : Change) (steps : List Prepared) (old new : Transform) → p.step ≡ step.Change id by → old.id ≡ id → Changed w by old new → HasRowRoom (p ∷ steps) old → HasRowRoom steps new
-changed_room w p id by steps old new is named c h =
+-- a change leaves the places
+changed_room : (w : ℕ) (by : Change) (pages : List Paged) (old new : Transform) → Changed w by old new → HasRowRoom pages old → HasRowRoom pages new
+changed_room w by pages old new c h =
     let same : new.id ≡ old.id = ap (λ (q : PutTransform). q.id) (put_stays w by old new c) in
-    let rows : rows_by old.id p.step ≡ more_rows by = ap (rows_by old.id) is ∙ (ap (λ other. cond (is_same other id) (more_rows by) 0) named ∙ ap (λ b. cond b (more_rows by) 0) (same_itself id)) in
-    subst (λ other. vec_len new.rows + rows_to other steps ≤ vec_capacity new.rows) (sym same) (omega (arith, h, rows, c.len, c.capacity))
+    subst (λ id. ArePlaced id new.rows.places pages) (sym same) (subst (λ places. ArePlaced old.id places pages) (sym c.places) h)
 
-rooms_next : (w : ℕ) (p : Prepared) (steps : List Prepared) (s : Step) (old new : List Transform) → p.step ≡ s → IsThere s old → PutHas (row_count steps) s → Stepped w s old new → AllByRecursion (HasRowRoom (p ∷ steps)) old → AllByRecursion (HasRowRoom steps) new
-rooms_next w p steps (step.Index index) old new is there put h rooms = subst (AllByRecursion (HasRowRoom steps)) (sym h) (all_weaker (HasRowRoom (p ∷ steps)) (HasRowRoom steps) (fewer p steps) old rooms)
-rooms_next w p steps (step.Write doc) old new is there put h rooms = subst (AllByRecursion (HasRowRoom steps)) (sym h) (all_map (HasRowRoom (p ∷ steps)) (HasRowRoom steps) (after_write (arc_value doc)) (fewer p steps) old rooms)
-rooms_next w p steps (step.Put t) old new is there put h rooms = subst (AllByRecursion (HasRowRoom steps)) (sym h) (omega (arith, put, to_some t.id steps), all_weaker (HasRowRoom (p ∷ steps)) (HasRowRoom steps) (fewer p steps) old rooms)
-rooms_next w p steps (step.Delete id) old new is there put h rooms = subst (AllByRecursion (HasRowRoom steps)) (sym h) (all_filter (HasRowRoom steps) (is_other id) old (all_weaker (HasRowRoom (p ∷ steps)) (HasRowRoom steps) (fewer p steps) old rooms))
-rooms_next w p steps (step.Change id by) old new is there put h rooms =
-    subst (AllByRecursion (HasRowRoom steps)) (sym h.set)
-    (all_set (HasRowRoom steps) old (place_in id old) h.now (changed_room w p id by steps (get_or old (place_in id old) h.now) h.now is (at_place id old h.now there).1 h.changed (room_at (p ∷ steps) old (place_in id old) h.now there rooms))
-    (all_weaker (HasRowRoom (p ∷ steps)) (HasRowRoom steps) (fewer p steps) old rooms))
+rooms_next : (w : ℕ) (p : Prepared) (steps : List Prepared) (s : Step) (old new : List Transform) → IsThere s old → PutHas (all_paged steps) s → Stepped w s old new → AllByRecursion (HasRowRoom (all_paged (p ∷ steps))) old
+    → AllByRecursion (HasRowRoom (all_paged steps)) new
+rooms_next w p steps (step.Index index) old new there put h rooms = subst (AllByRecursion (HasRowRoom (all_paged steps))) (sym h) (all_weaker (HasRowRoom (all_paged (p ∷ steps))) (HasRowRoom (all_paged steps)) (fewer p steps) old rooms)
+rooms_next w p steps (step.Write doc) old new there put h rooms =
+    subst (AllByRecursion (HasRowRoom (all_paged steps))) (sym h) (all_map (HasRowRoom (all_paged (p ∷ steps))) (HasRowRoom (all_paged steps)) (after_write (arc_value doc)) (fewer p steps) old rooms)
+rooms_next w p steps (step.Put t) old new there put h rooms = subst (AllByRecursion (HasRowRoom (all_paged steps))) (sym h) (put, all_weaker (HasRowRoom (all_paged (p ∷ steps))) (HasRowRoom (all_paged steps)) (fewer p steps) old rooms)
+rooms_next w p steps (step.Delete id) old new there put h rooms =
+    subst (AllByRecursion (HasRowRoom (all_paged steps))) (sym h) (all_filter (HasRowRoom (all_paged steps)) (is_other id) old (all_weaker (HasRowRoom (all_paged (p ∷ steps))) (HasRowRoom (all_paged steps)) (fewer p steps) old rooms))
+rooms_next w p steps (step.Change id by) old new there put h rooms =
+    let less = all_weaker (HasRowRoom (all_paged (p ∷ steps))) (HasRowRoom (all_paged steps)) (fewer p steps) old rooms in
+    subst (AllByRecursion (HasRowRoom (all_paged steps))) (sym h.set)
+    (all_set (HasRowRoom (all_paged steps)) old (place_in id old) h.now (changed_room w by (all_paged steps) (get_or old (place_in id old) h.now) h.now h.changed (room_at (all_paged steps) old (place_in id old) h.now there less)) less)
 
 -- ---- the next entry
 module _ (entries : Vec Kept) (indices : Vec SourceIndex) (docs : Vec (Arc Doc Global)) (ts : Vec Transform) (p : Prepared) (rest : List Prepared)
@@ -129,23 +106,23 @@ module _ (entries : Vec Kept) (indices : Vec SourceIndex) (docs : Vec (Arc Doc G
   there : IsThere p.step ts.items
   there = step_there (past_in entries.items) (entry_of p.kept) indices.items (shared docs.items) ts.items stands ready.taken.0 p.step ready.chain.0
 
-  can_change : (by : Change) (t : Transform) → vec_len t.rows + more_rows by ≤ vec_capacity t.rows → CanChange by t
-  can_change change.Start t h = tt
-  can_change (change.AskStop wait) t h = tt
-  can_change change.Stop t h = tt
-  can_change change.Prompt t h = tt
-  can_change (change.Fail reason) t h = tt
-  can_change (change.Begin n bound at_ms) t h = tt
-  can_change (change.Page n rows position) t h = h
-  can_change (change.Finish n) t h = tt
-  can_change change.Reset t h = tt
+  can_change : (id : List ℕ) (by : Change) (t : Transform) → t.id ≡ id → ArePlaced t.id t.rows.places (paged_by id by) → CanChange by t
+  can_change id change.Start t named h = tt
+  can_change id (change.AskStop wait) t named h = tt
+  can_change id change.Stop t named h = tt
+  can_change id change.Prompt t named h = tt
+  can_change id (change.Fail reason) t named h = tt
+  can_change id (change.Begin n bound at_ms) t named h = tt
+  can_change id (change.Page n rows position) t named h = h.0 (ap (λ other. is_same t.id other) (sym named) ∙ same_itself t.id)
+  can_change id (change.Finish n) t named h = tt
+  can_change id change.Reset t named h = tt
 
   row_room : (id : List ℕ) (by : Change) (d : Transform) → p.step ≡ step.Change id by → place_in id ts.items < length ts.items → CanChange by (get_or ts.items (place_in id ts.items) d)
   row_room id by d is low =
       let t : Transform = get_or ts.items (place_in id ts.items) d in
-      let room : HasRowRoom (p ∷ rest) t = room_at (p ∷ rest) ts.items (place_in id ts.items) d low ready.room.rows in
-      let rows : rows_by t.id p.step ≡ more_rows by = ap (rows_by t.id) is ∙ (ap (λ other. cond (is_same other id) (more_rows by) 0) (at_place id ts.items d low).1 ∙ ap (λ b. cond b (more_rows by) 0) (same_itself id)) in
-      can_change by t (omega (arith, room, rows))
+      let room : HasRowRoom (all_paged (p ∷ rest)) t = room_at (all_paged (p ∷ rest)) ts.items (place_in id ts.items) d low ready.room.rows in
+      let page : ArePlaced t.id t.rows.places (paged p.step) = all_front (IsPlaced t.id t.rows.places) (paged p.step) (all_paged rest) room in
+      can_change id by t (at_place id ts.items d low).1 (subst (λ s. ArePlaced t.id t.rows.places (paged s)) is page)
 
   by_step : (s : Step) → p.step ≡ s → IsThere s ts.items → vec_len indices + (length (added s) + index_count rest) ≤ vec_capacity indices → vec_len docs + (length (docs_of s) + doc_count rest) ≤ vec_capacity docs
       → vec_len ts + (puts s + put_count rest) ≤ vec_capacity ts → CanStep s indices docs ts
@@ -214,7 +191,7 @@ module _ (entries : Vec Kept) (indices : Vec SourceIndex) (docs : Vec (Arc Doc G
         indices = omega (arith, ready.room.indices, len_indices, h.index_room);
         docs = omega (arith, ready.room.docs, len_docs, h.doc_room);
         transforms = omega (arith, ready.room.transforms, len_transforms, h.transform_room);
-        rows = rooms_next (length docs.items) p rest p.step ts.items ts'.items refl there (put_fewer (row_count rest) (row_count (p ∷ rest)) p.step (omega arith) ready.room.put_rows.0) h.transforms ready.room.rows;
-        put_rows = puts_fewer (row_count rest) (row_count (p ∷ rest)) (omega arith) rest ready.room.put_rows.1;
+        rows = rooms_next (length docs.items) p rest p.step ts.items ts'.items there (subst (λ pages. PutHas pages p.step) (append-nil (all_paged rest)) ready.room.put_rows.0) h.transforms ready.room.rows;
+        put_rows = ready.room.put_rows.1;
       };
     }

@@ -3,7 +3,9 @@ use Rattle.std.proofs.Common.{◌≡◌, ℕ, ℤ, suc, add-one, ◌+◌, ◌^�
 use Rattle.std.specs.Prelude.{count_by, nat_lt, option_map}
 use Rattle.std.specs.List.{filter}
 use Rattle.std.specs.Global.{Vec}
-use Rattle.std.proofs.lemmas.List.{take-append-le}
+use Rattle.tf_dest.specs.declared.held.Held.{Held}
+use Rattle.tf_dest.specs.Tables.{Table, rows_in, rows_of}
+use Rattle.std.proofs.lemmas.List.{length-map, take-append-le}
 use Rattle.tf_model.specs.declared.doc.Doc.{Doc}
 use Rattle.tf_model.specs.declared.config.Retention.{Retention}
 use Rattle.tf_model.specs.declared.entry.Row.{Row}
@@ -21,10 +23,8 @@ use Rattle.tf_core.specs.declared.ready.Change.{Change}
 use Rattle.tf_core.specs.declared.ready.Change.TheVariants as change
 use Rattle.tf_core.specs.declared.transform.Transform.{Transform}
 use Rattle.tf_core.specs.Steps.{Changed, IsWhole, act_of, changed, rows_after, started}
-use Rattle.tf_core.specs.Places.{AreAscending}
 use Rattle.tf_core.specs.Summary.{IsFew, IsSummary, put_of}
 use Rattle.tf_core.specs.Table.{Tells}
-use Rattle.tf_core.proofs.Ascending.{change_ascends}
 
 -- more documents
 pub more_docs : (docs more : List Doc) (t : Transform) (l : Life) → IsSummary docs t l → IsSummary (docs ++ more) t l
@@ -83,9 +83,9 @@ take_none [] = refl
 take_none (d ∷ docs) = refl
 
 -- ---- a change
-module _ (docs : List Doc) (t : Transform) (l : Life) (h : IsSummary docs t l) (rows : Vec Row) where
+module _ (docs : List Doc) (t : Transform) (l : Life) (h : IsSummary docs t l) (rows : Table) where
   -- what changes the state alone
-  turned : (s u : State) (w v p q : Bool) (r o : Option SumRange) → rows.items ≡ t.rows.items → s ≡ u → w ≡ v → p ≡ q → r ≡ o
+  turned : (s u : State) (w v p q : Bool) (r o : Option SumRange) → rows_in rows ≡ rows_in t.rows → s ≡ u → w ≡ v → p ≡ q → r ≡ o
       → IsSummary docs (record t { state = s; waits = w; prompted = p; reason = r; rows = rows }) (record l { state = u; waits = v; prompted = q; reason = o })
   turned s u w v p q r o same state waits prompted reason = record {
     meaning_is = h.meaning_is;
@@ -109,7 +109,7 @@ module _ (docs : List Doc) (t : Transform) (l : Life) (h : IsSummary docs t l) (
     rows = same ∙ h.rows;
   }
 
-  begins : (n : ℕ) (bound : Option ℤ) (moment : ℤ) → IsNextBegin l n bound moment → rows.items ≡ t.rows.items
+  begins : (n : ℕ) (bound : Option ℤ) (moment : ℤ) → IsNextBegin l n bound moment → rows_in rows ≡ rows_in t.rows
       → IsSummary docs (record (changed (length docs) (change.Begin n bound moment) t) { rows = rows }) (lived docs (Begins n bound moment) l)
   begins n bound moment m same = record {
     meaning_is = h.meaning_is;
@@ -133,8 +133,8 @@ module _ (docs : List Doc) (t : Transform) (l : Life) (h : IsSummary docs t l) (
     rows = same ∙ h.rows;
   }
 
-  paged : (n : ℕ) (page : Vec Row) (position : Key) → last_key page.items ≡ Some position → rows.items ≡ put_rows page.items t.rows.items
-      → IsSummary docs (record (changed (length docs) (change.Page n page position) t) { rows = rows }) (lived docs (Pages n page.items) l)
+  paged : (n : ℕ) (page : Vec Held) (position : Key) → last_key (rows_of page.items) ≡ Some position → rows_in rows ≡ put_rows (rows_of page.items) (rows_in t.rows)
+      → IsSummary docs (record (changed (length docs) (change.Page n page position) t) { rows = rows }) (lived docs (Pages n (rows_of page.items)) l)
   paged n page position last same = record {
     meaning_is = h.meaning_is;
     forever = h.forever;
@@ -152,12 +152,12 @@ module _ (docs : List Doc) (t : Transform) (l : Life) (h : IsSummary docs t l) (
     late = h.late;
     reason = h.reason;
     processed = ap (λ m. m + 1) h.processed;
-    indexed = ap (λ m. m + length page.items) h.indexed;
+    indexed = λ i. h.indexed i + sym (length-map page.items (λ (x : Held). x.row)) i;
     deleted = h.deleted;
-    rows = same ∙ ap (put_rows page.items) h.rows;
+    rows = same ∙ ap (put_rows (rows_of page.items)) h.rows;
   }
 
-  finishes : (n : ℕ) → rows.items ≡ t.rows.items → IsSummary docs (record (changed (length docs) (change.Finish n) t) { rows = rows }) (lived docs (Finishes n) l)
+  finishes : (n : ℕ) → rows_in rows ≡ rows_in t.rows → IsSummary docs (record (changed (length docs) (change.Finish n) t) { rows = rows }) (lived docs (Finishes n) l)
   finishes n same = record {
     meaning_is = h.meaning_is;
     forever = h.forever;
@@ -180,7 +180,7 @@ module _ (docs : List Doc) (t : Transform) (l : Life) (h : IsSummary docs t l) (
     rows = same ∙ (h.rows ∙ sym (none_leave docs t l h));
   }
 
-  reopens : rows.items ≡ [] → IsSummary docs (record (changed (length docs) change.Reset t) { rows = rows }) (fresh l.meaning)
+  reopens : rows_in rows ≡ [] → IsSummary docs (record (changed (length docs) change.Reset t) { rows = rows }) (fresh l.meaning)
   reopens none = record {
     meaning_is = h.meaning_is;
     forever = h.forever;
@@ -204,7 +204,7 @@ module _ (docs : List Doc) (t : Transform) (l : Life) (h : IsSummary docs t l) (
   }
 
   -- whatever life the old one tells, the new one tells that life after the act
-  changes : (by : Change) → MayAct (act_of by) (Some l) → IsWhole by → rows.items ≡ rows_after by t.rows.items
+  changes : (by : Change) → MayAct (act_of by) (Some l) → IsWhole by → rows_in rows ≡ rows_after by (rows_in t.rows)
       → Tells docs (Some (record (changed (length docs) by t) { rows = rows })) (life_after docs (act_of by) (Some l))
   changes change.Start m whole same =
       turned (started (nat_lt t.finished t.begun)) (started (nat_lt l.finished (length l.checkpoints))) t.waits l.waits true true t.reason l.reason same
@@ -225,7 +225,7 @@ change_tells docs by old new (Some l) m whole c h =
     subst (λ (x : Transform). Tells docs (Some x) (life_after docs (act_of by) (Some l))) (sym c.same) (changes docs old l h new.rows by m whole c.rows)
 
 -- what a transform was put with does not change
-pub put_same : (w : ℕ) (by : Change) (t : Transform) (rows : Vec Row) → put_of (record (changed w by t) { rows = rows }) ≡ put_of t
+pub put_same : (w : ℕ) (by : Change) (t : Transform) (rows : Table) → put_of (record (changed w by t) { rows = rows }) ≡ put_of t
 put_same w change.Start t rows = refl
 put_same w (change.AskStop wait) t rows = refl
 put_same w change.Stop t rows = refl
@@ -246,40 +246,37 @@ few_more n t h = record {
   pages = omega (arith, h.pages);
   processed = omega (arith, h.processed);
   indexed = omega (arith, h.indexed);
-  ascending = h.ascending;
 }
 
-few_same : (n : ℕ) (t u : Transform) → u.rows.items ≡ t.rows.items → u.late ≡ t.late → u.pages ≡ t.pages → u.processed ≡ t.processed → u.indexed ≡ t.indexed → IsFew n t → IsFew (suc n) u
-few_same n t u rows late pages processed indexed h = record {
+few_same : (n : ℕ) (t u : Transform) → u.late ≡ t.late → u.pages ≡ t.pages → u.processed ≡ t.processed → u.indexed ≡ t.indexed → IsFew n t → IsFew (suc n) u
+few_same n t u late pages processed indexed h = record {
   late = omega (arith, h.late, late);
   pages = omega (arith, h.pages, pages);
   processed = omega (arith, h.processed, processed);
   indexed = omega (arith, h.indexed, indexed);
-  ascending = subst AreAscending (sym rows) h.ascending;
 }
 
-few_with : (n : ℕ) (t : Transform) (rows : Vec Row) → AreAscending rows.items → IsFew n t → IsFew n (record t { rows = rows })
-few_with n t rows ascending h = record { late = h.late; pages = h.pages; processed = h.processed; indexed = h.indexed; ascending = ascending }
+few_with : (n : ℕ) (t : Transform) (rows : Table) → IsFew n t → IsFew n (record t { rows = rows })
+few_with n t rows h = record { late = h.late; pages = h.pages; processed = h.processed; indexed = h.indexed }
 
-few_paged : (n m : ℕ) (page : Vec Row) (position : Key) (w : ℕ) (t : Transform) → length page.items < 2 ^ 63 → IsFew n t → IsFew (suc n) (changed w (change.Page m page position) t)
+few_paged : (n m : ℕ) (page : Vec Held) (position : Key) (w : ℕ) (t : Transform) → length page.items < 2 ^ 63 → IsFew n t → IsFew (suc n) (changed w (change.Page m page position) t)
 few_paged n m page position w t small h = record {
   late = omega (arith, h.late);
   pages = omega (arith, h.pages);
   processed = omega (arith, h.processed);
   indexed = omega (arith, h.indexed, small);
-  ascending = h.ascending;
 }
 
 few_changed : (n w : ℕ) (by : Change) (t : Transform) → IsWhole by → IsFew n t → IsFew (suc n) (changed w by t)
-few_changed n w change.Start t whole h = few_same n t (changed w change.Start t) refl refl refl refl refl h
-few_changed n w (change.AskStop wait) t whole h = few_same n t (changed w (change.AskStop wait) t) refl refl refl refl refl h
-few_changed n w change.Stop t whole h = few_same n t (changed w change.Stop t) refl refl refl refl refl h
-few_changed n w change.Prompt t whole h = few_same n t (changed w change.Prompt t) refl refl refl refl refl h
-few_changed n w (change.Fail reason) t whole h = few_same n t (changed w (change.Fail reason) t) refl refl refl refl refl h
-few_changed n w (change.Begin m bound at_ms) t whole h = record { late = omega (arith, h.late); pages = omega arith; processed = omega (arith, h.processed); indexed = omega (arith, h.indexed); ascending = h.ascending }
+few_changed n w change.Start t whole h = few_same n t (changed w change.Start t) refl refl refl refl h
+few_changed n w (change.AskStop wait) t whole h = few_same n t (changed w (change.AskStop wait) t) refl refl refl refl h
+few_changed n w change.Stop t whole h = few_same n t (changed w change.Stop t) refl refl refl refl h
+few_changed n w change.Prompt t whole h = few_same n t (changed w change.Prompt t) refl refl refl refl h
+few_changed n w (change.Fail reason) t whole h = few_same n t (changed w (change.Fail reason) t) refl refl refl refl h
+few_changed n w (change.Begin m bound at_ms) t whole h = record { late = omega (arith, h.late); pages = omega arith; processed = omega (arith, h.processed); indexed = omega (arith, h.indexed) }
 few_changed n w (change.Page m page position) t whole h = few_paged n m page position w t whole.1 h
-few_changed n w (change.Finish m) t whole h = few_same n t (changed w (change.Finish m) t) refl refl refl refl refl h
-few_changed n w change.Reset t whole h = record { late = omega arith; pages = omega arith; processed = omega arith; indexed = omega arith; ascending = h.ascending }
+few_changed n w (change.Finish m) t whole h = few_same n t (changed w (change.Finish m) t) refl refl refl refl h
+few_changed n w change.Reset t whole h = record { late = omega arith; pages = omega arith; processed = omega arith; indexed = omega arith }
 
 pub few_after : (n w : ℕ) (by : Change) (old new : Transform) → IsWhole by → Changed w by old new → IsFew n old → IsFew (suc n) new
-few_after n w by old new whole c h = subst (IsFew (suc n)) (sym c.same) (few_with (suc n) (changed w by old) new.rows (subst AreAscending (sym c.rows) (change_ascends by old.rows.items h.ascending)) (few_changed n w by old whole h))
+few_after n w by old new whole c h = subst (IsFew (suc n)) (sym c.same) (few_with (suc n) (changed w by old) new.rows (few_changed n w by old whole h))

@@ -1,4 +1,3 @@
-pub mod Placed
 pub mod Mapped
 pub mod Truths
 pub mod Written
@@ -8,7 +7,6 @@ pub mod BuiltPast
 pub mod Set
 pub mod Tables
 pub mod Taken
-pub mod Ascending
 pub mod Changes
 pub mod Allowed
 pub mod AllowedDocs
@@ -19,6 +17,8 @@ pub mod Found
 pub mod IdsLaws
 pub mod CountsLaws
 pub mod SameTables
+pub mod RowRoom
+pub mod Opened
 pub mod ReadyCore
 pub mod Numbers
 pub mod MoreSteps

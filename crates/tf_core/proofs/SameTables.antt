@@ -2,15 +2,14 @@
 use Rattle.std.proofs.Common.{◌≡◌, ℕ, zero, suc, ◌+◌, ◌<◌, Bool, true, false, cond, List, [], ◌∷◌, length, map, take, get_or, Option, Some, None, arith, refl, sym, ap, ◌∙◌, subst, add-one}
 use Rattle.std.specs.Prelude.{slice_set}
 use Rattle.std.specs.List.{AllByRecursion}
-use Rattle.std.specs.Global.{Vec}
+use Rattle.tf_dest.specs.declared.held.Held.{Held}
+use Rattle.tf_dest.specs.Tables.{Table, rows_in, rows_of}
 use Rattle.tf_model.specs.declared.doc.Doc.{Doc}
 use Rattle.tf_model.specs.declared.entry.Entry.{Entry}
-use Rattle.tf_model.specs.declared.entry.Row.{Row}
 use Rattle.tf_history.specs.Catalogue.{SourceIndex}
 use Rattle.tf_history.specs.Lives.{Life, is_same, life}
 use Rattle.tf_core.specs.declared.transform.Transform.{Transform}
 use Rattle.tf_core.specs.Legal.{read}
-use Rattle.tf_core.specs.Places.{AreAscending}
 use Rattle.tf_core.specs.Rooms.{SameButRoom, SameTables}
 use Rattle.tf_core.specs.Standing.{Stands}
 use Rattle.tf_core.specs.Summary.{IsFew, IsSummary, put_of}
@@ -18,10 +17,10 @@ use Rattle.tf_core.specs.Table.{Tells, transform_at}
 
 pub tables_itself : (ts : List Transform) → SameTables ts ts
 tables_itself [] = tt
-tables_itself (t ∷ ts) = (record { same = refl; rows = refl }, tables_itself ts)
+tables_itself (t ∷ ts) = (record { same = refl; held = refl }, tables_itself ts)
 
 room_again : (t u x : Transform) → SameButRoom t u → SameButRoom u x → SameButRoom t x
-room_again t u x h g = record { same = g.same ∙ ap (λ (y : Transform). record y { rows = x.rows }) h.same; rows = g.rows ∙ h.rows }
+room_again t u x h g = record { same = g.same ∙ ap (λ (y : Transform). record y { rows = x.rows }) h.same; held = g.held ∙ h.held }
 
 pub tables_set : (ts us : List Transform) (i : ℕ) (x : Transform) → SameTables ts us → i < length us → SameButRoom (get_or us i x) x → SameTables ts (slice_set us i x)
 tables_set [] [] i x h low same = absurd (omega (arith, low))
@@ -39,7 +38,7 @@ pub first_more : (P : Transform → Type 0) (us : List Transform) (i : ℕ) (x :
 first_more P us i x h p low = subst (λ n. AllByRecursion P (take n (slice_set us i x))) (sym (add-one i)) (first_suc P us i x h p low)
 
 -- ---- what stands
-summary_with : (docs : List Doc) (t : Transform) (rows : Vec Row) (l : Life) → rows.items ≡ t.rows.items → IsSummary docs t l → IsSummary docs (record t { rows = rows }) l
+summary_with : (docs : List Doc) (t : Transform) (rows : Table) (l : Life) → rows_in rows ≡ rows_in t.rows → IsSummary docs t l → IsSummary docs (record t { rows = rows }) l
 summary_with docs t rows l same h = record {
   meaning_is = h.meaning_is;
   forever = h.forever;
@@ -64,10 +63,10 @@ summary_with docs t rows l same h = record {
 
 room_tells : (docs : List Doc) (t u : Transform) (o : Option Life) → SameButRoom t u → Tells docs (Some t) o → Tells docs (Some u) o
 room_tells docs t u None h g = g
-room_tells docs t u (Some l) h g = subst (λ x. IsSummary docs x l) (sym h.same) (summary_with docs t u.rows l h.rows g)
+room_tells docs t u (Some l) h g = subst (λ x. IsSummary docs x l) (sym h.same) (summary_with docs t u.rows l (ap (λ (held : List Held). rows_of held) h.held) g)
 
 room_few : (n : ℕ) (t u : Transform) → SameButRoom t u → IsFew n t → IsFew n u
-room_few n t u h g = subst (IsFew n) (sym h.same) (record { late = g.late; pages = g.pages; processed = g.processed; indexed = g.indexed; ascending = subst AreAscending (sym h.rows) g.ascending })
+room_few n t u h g = subst (IsFew n) (sym h.same) (record { late = g.late; pages = g.pages; processed = g.processed; indexed = g.indexed })
 
 tables_tell : (docs : List Doc) (id : List ℕ) (o : Option Life) (ts us : List Transform) → SameTables ts us → Tells docs (transform_at id ts) o → Tells docs (transform_at id us) o
 tables_tell docs id o [] [] h g = g

@@ -27,7 +27,6 @@ use Rattle.tf_core.specs.declared.ready.Step.TheVariants as step
 use Rattle.tf_core.specs.declared.transform.Transform.{Transform}
 use Rattle.tf_core.specs.Late.{after_write, is_late_for}
 use Rattle.tf_core.specs.Legal.{IsTaken, read}
-use Rattle.tf_core.specs.Places.{AreAscending}
 use Rattle.tf_core.specs.Standing.{Stands}
 use Rattle.tf_core.specs.Steps.{Changed, HasLife, IsStep, IsSound, IsWhole, Stepped, act_of, acts_of, added, docs_of, only, puts_after}
 use Rattle.tf_core.specs.Summary.{IsFew, IsSummary, put_of}
@@ -116,7 +115,6 @@ after_few d n t h = record {
   pages = omega (arith, h.pages);
   processed = omega (arith, h.processed);
   indexed = omega (arith, h.indexed);
-  ascending = h.ascending;
 }
   where
     by_late : (b : Bool) (late n : ℕ) → late ≤ n → cond b (late + 1) late ≤ suc n
@@ -124,7 +122,7 @@ after_few d n t h = record {
     by_late false late n h = omega (arith, h)
 
 fresh_few : (n : ℕ) (docs : List Doc) (t : Transform) (m : Meaning) → IsSummary docs t (fresh m) → IsFew n t
-fresh_few n docs t m h = record { late = omega (arith, h.late); pages = omega (arith, h.pages); processed = omega (arith, h.processed); indexed = omega (arith, h.indexed); ascending = subst AreAscending (sym h.rows) tt }
+fresh_few n docs t m h = record { late = omega (arith, h.late); pages = omega (arith, h.pages); processed = omega (arith, h.processed); indexed = omega (arith, h.indexed) }
 
 few_at : (n : ℕ) (ts : List Transform) (i : ℕ) (x : Transform) → i < length ts → AllByRecursion (IsFew n) ts → IsFew n (get_or ts i x)
 few_at n [] i x low h = absurd (omega (arith, low))

@@ -4,7 +4,6 @@ pub mod Legal
 pub mod Laws
 pub mod BuiltPast
 pub mod Allowing
-pub mod Places
 pub mod Summary
 pub mod Late
 pub mod Table

@@ -1,6 +1,7 @@
 -- Room for what a step adds.
-use Rattle.std.specs.Prelude.{◌≡◌, ◌+◌, ◌<◌, ◌≤◌, ⊤, List, [], ◌∷◌, length, get_or, vec_len, vec_capacity}
+use Rattle.std.specs.Prelude.{◌≡◌, ◌<◌, ⊤, List, [], ◌∷◌, length, get_or, vec_len, vec_capacity}
 use Rattle.std.specs.Global.{Vec}
+use Rattle.tf_dest.specs.Tables.{HavePlaces, held_keys}
 use Rattle.tf_history.specs.Catalogue.{SourceIndex}
 use Rattle.tf_core.specs.declared.ready.Change.{Change}
 use Rattle.tf_core.specs.declared.ready.Change.TheVariants as change
@@ -9,9 +10,9 @@ use Rattle.tf_core.specs.declared.ready.Step.TheVariants as step
 use Rattle.tf_core.specs.declared.transform.Transform.{Transform}
 use Rattle.tf_core.specs.Table.{place_in}
 
--- room for the rows of a Page
+-- a place for each row of a Page
 abbrev pub CanChange : Change → Transform → Type 0
-CanChange (change.Page n rows position) t = vec_len t.rows + length rows.items ≤ vec_capacity t.rows
+CanChange (change.Page n rows position) t = HavePlaces t.rows.places (held_keys rows.items)
 CanChange _ t = ⊤
 
 -- room for what a step adds; the transform that it changes is there
@@ -22,12 +23,12 @@ CanStep (step.Put t) indices docs ts = vec_len ts < vec_capacity ts
 CanStep (step.Delete id) indices docs ts = ⊤
 CanStep (step.Change id by) indices docs ts = (place_in id ts.items < length ts.items) × ((d : Transform) → CanChange by (get_or ts.items (place_in id ts.items) d))
 
--- a transform that differs by its room alone
+-- a transform that differs by the places of its rows alone
 pub record SameButRoom (old new : Transform) : Type 0 where
   pub same : new ≡ record old { rows = new.rows }
-  pub rows : new.rows.items ≡ old.rows.items
+  pub held : new.rows.held ≡ old.rows.held
 
--- transforms that differ by their room alone
+-- transforms that differ by the places of their rows alone
 abbrev pub SameTables : List Transform → List Transform → Type 0
 SameTables [] [] = ⊤
 SameTables [] (u ∷ us) = ⊥

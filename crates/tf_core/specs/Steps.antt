@@ -1,5 +1,5 @@
 -- What a prepared step does.
-use Rattle.std.specs.Prelude.{◌≡◌, ℕ, pos, ◌^◌, ◌+◌, ◌<◌, ◌≤◌, ⊤, Bool, true, false, not, if◌then◌else◌, nat_lt, List, [], ◌∷◌, filter, length, map, get_or, slice_set, vec_len, vec_capacity, Some, None, IsSome}
+use Rattle.std.specs.Prelude.{◌≡◌, ℕ, pos, ◌^◌, ◌+◌, ◌<◌, ⊤, Bool, true, false, not, if◌then◌else◌, nat_lt, List, [], ◌∷◌, filter, length, map, get_or, slice_set, Some, None, IsSome}
 use Rattle.std.specs.Arc.{arc_value}
 use Rattle.tf_model.specs.declared.doc.Doc.{Doc}
 use Rattle.tf_model.specs.declared.entry.Entry.{Entry}
@@ -20,10 +20,10 @@ use Rattle.tf_core.specs.declared.ready.Change.TheVariants as change
 use Rattle.tf_core.specs.declared.ready.Step.{Step}
 use Rattle.tf_core.specs.declared.ready.Step.TheVariants as step
 use Rattle.tf_core.specs.declared.transform.Transform.{Transform}
-use Rattle.tf_core.specs.Places.{AreAscending}
 use Rattle.tf_core.specs.Late.{after_write}
 use Rattle.tf_core.specs.Summary.{IsSummary, put_of}
 use Rattle.tf_core.specs.Table.{is_other, place_in}
+use Rattle.tf_dest.specs.Tables.{rows_in, rows_of}
 use Rattle.tf_mapping.specs.Documents.{values_of}
 
 -- ---- a change of one transform
@@ -35,7 +35,7 @@ act_of change.Stop = Turns Stops
 act_of change.Prompt = Turns Prompts
 act_of (change.Fail reason) = Turns (Fails reason.key reason.name reason.value)
 act_of (change.Begin n bound at_ms) = Begins n bound at_ms
-act_of (change.Page n rows position) = Pages n rows.items
+act_of (change.Page n rows position) = Pages n (rows_of rows.items)
 act_of (change.Finish n) = Finishes n
 act_of change.Reset = Reopens
 
@@ -80,33 +80,26 @@ changed written change.Reset t =
 
 -- the rows after a change
 abbrev pub rows_after : Change → List Row → List Row
-rows_after (change.Page n rows position) before = put_rows rows.items before
+rows_after (change.Page n rows position) before = put_rows (rows_of rows.items) before
 rows_after change.Reset before = []
 rows_after _ before = before
 
--- how many rows a change can add
-abbrev pub more_rows : Change → ℕ
-more_rows (change.Page n rows position) = length rows.items
-more_rows _ = 0
-
 -- a Page has its last key as position, and fewer rows than fit in memory
 abbrev pub IsWhole : Change → Type 0
-IsWhole (change.Page n rows position) = (last_key rows.items ≡ Some position) × (length rows.items < 2 ^ 63)
+IsWhole (change.Page n rows position) = (last_key (rows_of rows.items) ≡ Some position) × (length rows.items < 2 ^ 63)
 IsWhole _ = ⊤
 
 pub record Changed (written : ℕ) (by : Change) (old new : Transform) : Type 0 where
   pub same : new ≡ record (changed written by old) { rows = new.rows }
-  pub rows : new.rows.items ≡ rows_after by old.rows.items
-  pub len : vec_len new.rows ≤ vec_len old.rows + more_rows by
-  pub capacity : vec_capacity old.rows ≤ vec_capacity new.rows
+  pub rows : rows_in new.rows ≡ rows_after by (rows_in old.rows)
+  pub places : new.rows.places ≡ old.rows.places
 
--- counters that one more does not overflow, and rows in their order
+-- counters that one more does not overflow
 pub record IsSmall (t : Transform) : Type 0 where
   pub late : t.late < 2 ^ 63
   pub pages : t.pages < 2 ^ 63
   pub processed : t.processed < 2 ^ 63
   pub indexed : t.indexed < 2 ^ 127
-  pub ascending : AreAscending t.rows.items
 
 -- ---- steps
 -- the index that a step adds, none or one

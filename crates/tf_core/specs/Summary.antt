@@ -5,7 +5,7 @@ use Rattle.tf_history.specs.Configured.{meaning}
 use Rattle.tf_history.specs.Lives.{Checkpoint, Life, last_bound, read_last, from_sources}
 use Rattle.tf_history.specs.Transforms.{PutTransform}
 use Rattle.tf_core.specs.declared.transform.Transform.{Transform}
-use Rattle.tf_core.specs.Places.{AreAscending}
+use Rattle.tf_dest.specs.Tables.{rows_in}
 
 -- a transform as it was put
 abbrev pub put_of : Transform → PutTransform
@@ -36,12 +36,11 @@ pub record IsSummary (docs : List Doc) (t : Transform) (l : Life) : Type 0 where
   pub processed : t.processed ≡ l.processed
   pub indexed : t.indexed ≡ l.indexed
   pub deleted : t.deleted ≡ l.deleted
-  pub rows : t.rows.items ≡ l.rows
+  pub rows : rows_in t.rows ≡ l.rows
 
--- how far the counters can have come after so many entries, and the order of the rows
+-- how far the counters can have come after so many entries
 pub record IsFew (n : ℕ) (t : Transform) : Type 0 where
   pub late : t.late ≤ n
   pub pages : t.pages ≤ n
   pub processed : t.processed ≤ n
   pub indexed : t.indexed ≤ n * 2 ^ 63
-  pub ascending : AreAscending t.rows.items

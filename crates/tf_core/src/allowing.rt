@@ -23,13 +23,13 @@ use crate::ids::Ids;
 use crate::index::Index;
 use crate::lookups::place_in;
 use crate::names::is_free;
-use crate::rows::key;
 use crate::table::find;
 use crate::transform::Transform;
 use crate::trees::written_values;
 use std::alloc::Global;
 use std::cmp::Ordering;
 use std::sync::Arc;
+use tf_dest::key_of_row;
 use tf_mapping::route;
 use tf_model::{
     Agg, Config, Doc, FieldType, Group, Key, Mapping, OutOfMemory, Row, Shape, State, Text, Tree,
@@ -356,10 +356,10 @@ fn ascends(position: Option<&Key>, rows: &[Row]) -> bool
 {
     let mut last = position;
     for row in rows {
-        if !is_after(last, key(row)) {
+        if !is_after(last, key_of_row(row)) {
             return false;
         }
-        last = Some(key(row));
+        last = Some(key_of_row(row));
     }
     true
 }

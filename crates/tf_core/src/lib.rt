@@ -26,7 +26,6 @@ mod preparing;
 mod reading;
 mod ready;
 mod rooms;
-mod rows;
 mod state;
 mod stepping;
 mod table;

@@ -1,7 +1,7 @@
 // The step of an entry.
 ghost use Rattle.std.specs.Prelude.{◌≡◌, ◌++◌, IfOk};
 ghost use Rattle.tf_core.specs.Chain.{all_added};
-ghost use Rattle.tf_core.specs.Made.{IsFit, IsOther, IsStepFor};
+ghost use Rattle.tf_core.specs.Made.{IsFit, IsOther, IsStepFor, pages_of};
 
 use crate::index::Index;
 use crate::making::{opened, paged};
@@ -9,17 +9,17 @@ use crate::ready::{Change, Prepared, Step};
 use std::alloc::Global;
 use tf_model::{Entry, Key, Kind, OutOfMemory, SumRange, Text, copy_key};
 
-/// The step of an entry that is no Write. A transform that it puts has room for so many rows.
+/// The step of an entry that is no Write. A transform that it puts has room for the Pages of entries behind it.
 pub fn step_of(
     alloc: Global,
     indices: &[Index],
     steps: &[Prepared],
-    room: usize,
+    behind: &[Entry],
     entry: &Entry,
 ) -> Result<Step, OutOfMemory>
     requires other { IsOther entry.now.kind }
     requires fit { IsFit (indices.now ++ all_added steps.now) entry.now.kind }
-    ensures { IfOk result (IsStepFor (indices.now ++ all_added steps.now) room entry.now) }
+    ensures { IfOk result (IsStepFor (indices.now ++ all_added steps.now) (pages_of behind.now) entry.now) }
 {
     match &entry.kind {
         Kind::Index {
@@ -30,7 +30,9 @@ pub fn step_of(
             quick,
         } => Ok(Step::Index(Index::copied(alloc, name, *shards, mapping, stamp, *quick)?)),
         Kind::Write { .. } => unreachable!(),
-        Kind::Put { id, config } => Ok(Step::Put(opened(alloc, indices, steps, room, id, config)?)),
+        Kind::Put { id, config } => Ok(Step::Put(opened(
+            alloc, indices, steps, behind, id, config,
+        )?)),
         Kind::Delete { id } => Ok(Step::Delete(id.copy(alloc)?)),
         Kind::Reset { id } => changed(alloc, id, Change::Reset),
         Kind::Start { id } => changed(alloc, id, Change::Start),

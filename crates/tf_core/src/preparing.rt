@@ -1,13 +1,11 @@
 // How entries are prepared.
-ghost use Rattle.std.specs.Prelude.{◌≡◌, ◌++◌, ◌+◌, List, IfOk};
+ghost use Rattle.std.specs.Prelude.{◌≡◌, ◌++◌, List, IfOk};
 ghost use Rattle.tf_core.specs.declared.ready.Prepared.{Prepared};
 ghost use Rattle.tf_core.specs.Counts.{HaveCounts, SameCounts};
 ghost use Rattle.tf_core.specs.Ids.{AreIndexed, AreNew, all_docs};
 ghost use Rattle.tf_core.specs.Standing.{shared};
 ghost use Rattle.tf_core.specs.Chain.{HasRoom, all_added};
-ghost use Rattle.tf_core.specs.Made as made;
-ghost use Rattle.tf_core.specs.Made.{IsFit, IsOther, IsPreparedFor};
-ghost use Rattle.tf_core.specs.Preparing as spec;
+ghost use Rattle.tf_core.specs.Made.{IsFit, IsOther, IsPreparedFor, pages_of};
 ghost use Rattle.tf_core.specs.Rooms.{SameTables};
 ghost use Rattle.tf_core.specs.Preparing.{AllFit, ArePrepared};
 
@@ -50,7 +48,7 @@ pub fn make_ready(
     ensures counts { IfOk result (λ steps. HaveCounts counts.new steps.items) }
 {
     let steps = prepare_all(alloc, indices.as_slice(), more)?;
-    make_room(entries, indices, docs, transforms, steps.as_slice())?;
+    make_room(alloc, entries, indices, docs, transforms, steps.as_slice())?;
     make_counts(counts, steps.as_slice())?;
     enter_all(ids, alloc, docs.as_slice(), steps.as_slice())?;
     Ok(steps)
@@ -65,69 +63,26 @@ pub fn prepare_all(
     requires { AllFit indices.now entries }
     ensures { IfOk result (λ steps. ArePrepared indices.now entries steps.items) }
 {
-    let room = rows_of_all(entries.as_slice())?;
-    prepare_each(alloc, indices, room, entries)
-}
-
-/// Prepares entries; each transform that is put has room for so many rows.
-fn prepare_each(
-    alloc: Global,
-    indices: &[Index],
-    room: usize,
-    entries: List<Entry>,
-) -> Result<Vec<Prepared>, OutOfMemory>
-    requires fit { AllFit indices.now entries }
-    requires room { room ≡ spec.rows_of_all entries }
-    ensures { IfOk result (λ steps. ArePrepared indices.now entries steps.items) }
-{
     let mut steps = Vec::new(alloc);
-    for entry in entries.into_vec() {
-        let prepared = prepare(alloc, indices, steps.as_slice(), room, entry)?;
+    let mut behind = entries.into_vec();
+    behind.reverse();
+    while let Some(entry) = behind.pop() {
+        let prepared = prepare(alloc, indices, steps.as_slice(), behind.as_slice(), entry)?;
         steps.push(prepared)?;
     }
     Ok(steps)
 }
 
-/// How many rows entries can add. Too many to count are too many for the memory.
-fn rows_of_all(entries: &[Entry]) -> Result<usize, OutOfMemory>
-    ensures { IfOk result (λ rows. rows ≡ spec.rows_of_all entries.now) }
-{
-    let mut rows: usize = 0;
-    for entry in entries {
-        rows = sum(rows, rows_of(entry))?;
-    }
-    Ok(rows)
-}
-
-/// The sum, where it can be counted.
-pub fn sum(rows: usize, more: usize) -> Result<usize, OutOfMemory>
-    ensures { IfOk result (λ sum. sum ≡ rows + more) }
-{
-    match rows.checked_add(more) {
-        Some(sum) => Ok(sum),
-        None => Err(OutOfMemory),
-    }
-}
-
-fn rows_of(entry: &Entry) -> usize
-    ensures { result ≡ made.rows_of entry.now.kind }
-{
-    match &entry.kind {
-        Kind::Page { rows, .. } => rows.len(),
-        _ => 0,
-    }
-}
-
-/// Prepares one entry.
+/// Prepares one entry, where others come behind it.
 fn prepare(
     alloc: Global,
     indices: &[Index],
     steps: &[Prepared],
-    room: usize,
+    behind: &[Entry],
     entry: Entry,
 ) -> Result<Prepared, OutOfMemory>
     requires { IsFit (indices.now ++ all_added steps.now) entry.kind }
-    ensures { IfOk result (IsPreparedFor (indices.now ++ all_added steps.now) room entry) }
+    ensures { IfOk result (IsPreparedFor (indices.now ++ all_added steps.now) (pages_of behind.now) entry) }
 {
     let Entry { at_ms, actor, kind } = entry;
     match kind {
@@ -141,7 +96,7 @@ fn prepare(
             let doc = doc_of(alloc, indices, steps, index, shard, seq, id, tree)?;
             written(alloc, at_ms, actor, doc)
         }
-        kind => whole(alloc, indices, steps, room, Entry { at_ms, actor, kind }),
+        kind => whole(alloc, indices, steps, behind, Entry { at_ms, actor, kind }),
     }
 }
 
@@ -150,14 +105,14 @@ fn whole(
     alloc: Global,
     indices: &[Index],
     steps: &[Prepared],
-    room: usize,
+    behind: &[Entry],
     entry: Entry,
 ) -> Result<Prepared, OutOfMemory>
     requires other { IsOther entry.kind }
     requires fit { IsFit (indices.now ++ all_added steps.now) entry.kind }
-    ensures { IfOk result (IsPreparedFor (indices.now ++ all_added steps.now) room entry) }
+    ensures { IfOk result (IsPreparedFor (indices.now ++ all_added steps.now) (pages_of behind.now) entry) }
 {
-    let step = step_of(alloc, indices, steps, room, &entry)?;
+    let step = step_of(alloc, indices, steps, behind, &entry)?;
     Ok(Prepared {
         kept: Kept::Other(Arc::new(alloc, entry)?),
         step,

@@ -8,7 +8,8 @@ use crate::transform::Transform;
 use std::alloc::Global;
 use std::marker::Model;
 use std::sync::Arc;
-use tf_model::{Doc, Key, Row, SumRange, Text};
+use tf_dest::Held;
+use tf_model::{Doc, Key, SumRange, Text};
 
 /// What an entry changes in one transform, with all the memory that it needs.
 #[derive(Drop)]
@@ -27,7 +28,7 @@ pub enum Change {
     },
     Page {
         n: u64,
-        rows: Vec<Row>,
+        rows: Vec<Held>,
         /// The key of the last row.
         position: Key,
     },

@@ -1,37 +1,37 @@
 // Room for what prepared entries add.
-ghost use Rattle.std.specs.Prelude.{◌≡◌, OnOk, IfOk};
-ghost use Rattle.tf_core.specs.Chain as spec;
-ghost use Rattle.tf_core.specs.Chain.{HasRoom, HasRowRoom};
-ghost use Rattle.tf_core.specs.Preparing.{PutsHave};
-ghost use Rattle.tf_core.specs.Rooms.{SameButRoom, SameTables};
+ghost use Rattle.std.specs.Prelude.{◌≡◌, ℕ, List, [], OnOk};
 ghost use Rattle.std.specs.List.{AllByRecursion};
-ghost use Rattle.tf_core.specs.Steps as steps;
+ghost use Rattle.tf_dest.specs.Tables.{KeepsPlaces};
+ghost use Rattle.tf_core.specs.Chain as spec;
+ghost use Rattle.tf_core.specs.Chain.{ArePlaced, HasRoom, HasRowRoom, PutsHave, all_paged, paged, paged_by};
+ghost use Rattle.tf_core.specs.Rooms.{SameButRoom, SameTables};
 
 use crate::index::Index;
 use crate::kept::Kept;
-use crate::preparing::sum;
 use crate::ready::{Change, Prepared, Step};
 use crate::transform::Transform;
 use std::alloc::Global;
 use std::sync::Arc;
+use tf_dest::Dest;
 use tf_model::{Doc, OutOfMemory, Text};
 
 /// Makes room for what prepared entries add, and changes nothing else.
 pub fn make_room(
+    alloc: Global,
     entries: &mut Vec<Kept>,
     indices: &mut Vec<Index>,
     docs: &mut Vec<Arc<Doc, Global>>,
     transforms: &mut Vec<Transform>,
     steps: &[Prepared],
 ) -> Result<(), OutOfMemory>
-    requires { PutsHave (spec.row_count steps.now) steps.now }
+    requires { PutsHave steps.now [] }
     ensures entries { entries.new.items ≡ entries.old.items }
     ensures indices { indices.new.items ≡ indices.old.items }
     ensures docs { docs.new.items ≡ docs.old.items }
     ensures transforms { SameTables transforms.old.items transforms.new.items }
     ensures room { OnOk result (HasRoom steps.now entries.new indices.new docs.new transforms.new) }
 {
-    make_row_room(transforms, steps)?;
+    make_row_room(alloc, transforms, steps)?;
     transforms.reserve(count_puts(steps))?;
     docs.reserve(count_docs(steps))?;
     indices.reserve(count_indices(steps))?;
@@ -74,50 +74,73 @@ fn count_puts(steps: &[Prepared]) -> usize
     count
 }
 
-/// Makes room for rows in each transform that steps page.
-fn make_row_room(transforms: &mut Vec<Transform>, steps: &[Prepared]) -> Result<(), OutOfMemory>
+/// Makes a place for each row that steps put into each of these transforms.
+fn make_row_room(
+    alloc: Global,
+    transforms: &mut Vec<Transform>,
+    steps: &[Prepared],
+) -> Result<(), OutOfMemory>
     ensures same { SameTables transforms.old.items transforms.new.items }
-    ensures room { OnOk result (AllByRecursion (HasRowRoom steps.now) transforms.new.items) }
+    ensures room { OnOk result (AllByRecursion (HasRowRoom (all_paged steps.now)) transforms.new.items) }
 {
     for at in 0..transforms.len() {
-        make_room_in(&mut transforms[at], steps)?;
+        make_room_in(alloc, &mut transforms[at], steps)?;
     }
     Ok(())
 }
 
-fn make_room_in(transform: &mut Transform, steps: &[Prepared]) -> Result<(), OutOfMemory>
+/// Makes a place for each row that steps put into a transform, and drops places that earlier steps left without a row.
+fn make_room_in(
+    alloc: Global,
+    transform: &mut Transform,
+    steps: &[Prepared],
+) -> Result<(), OutOfMemory>
     ensures same { SameButRoom transform.old transform.new }
-    ensures room { OnOk result (HasRowRoom steps.now transform.new) }
+    ensures room { OnOk result (HasRowRoom (all_paged steps.now) transform.new) }
 {
-    let rows = rows_to(&transform.id, steps)?;
-    transform.rows.reserve(rows)
+    make_places(alloc, &transform.id, &mut transform.rows, steps)
 }
 
-/// How many rows steps can add to a transform. Too many to count are too many for the memory.
-fn rows_to(id: &Text, steps: &[Prepared]) -> Result<usize, OutOfMemory>
-    ensures { IfOk result (λ rows. rows ≡ spec.rows_to id.now steps.now) }
+fn make_places(
+    alloc: Global,
+    id: &Text,
+    rows: &mut Dest,
+    steps: &[Prepared],
+) -> Result<(), OutOfMemory>
+    ensures held { rows.new.held ≡ rows.old.held }
+    ensures places { OnOk result (ArePlaced id.now rows.new.places (all_paged steps.now)) }
 {
-    let mut rows: usize = 0;
+    rows.tidy();
     for prepared in steps {
-        rows = sum(rows, rows_by(id, &prepared.step))?;
+        make_places_by(alloc, id, rows, &prepared.step)?;
     }
-    Ok(rows)
+    Ok(())
 }
 
-fn rows_by(id: &Text, step: &Step) -> usize
-    ensures { result ≡ spec.rows_by id.now step.now }
+fn make_places_by(alloc: Global, id: &Text, rows: &mut Dest, step: &Step) -> Result<(), OutOfMemory>
+    ensures held { rows.new.held ≡ rows.old.held }
+    ensures kept { KeepsPlaces rows.old.places rows.new.places }
+    ensures places { OnOk result (ArePlaced id.now rows.new.places (paged step.now)) }
 {
     match step {
-        Step::Change { id: other, change } => { if *id == *other { more_rows(change) } else { 0 } }
-        _ => 0,
+        Step::Change { id: other, change } => {
+            if *id == *other {
+                reserve(alloc, rows, change)
+            } else {
+                Ok(())
+            }
+        }
+        _ => Ok(()),
     }
 }
 
-fn more_rows(change: &Change) -> usize
-    ensures { result ≡ steps.more_rows change.now }
+fn reserve(alloc: Global, rows: &mut Dest, change: &Change) -> Result<(), OutOfMemory>
+    ensures held { rows.new.held ≡ rows.old.held }
+    ensures kept { KeepsPlaces rows.old.places rows.new.places }
+    ensures places { OnOk result ((id : List ℕ) → ArePlaced id rows.new.places (paged_by id change.now)) }
 {
     match change {
-        Change::Page { rows, .. } => rows.len(),
-        _ => 0,
+        Change::Page { rows: page, .. } => rows.reserve(alloc, page.as_slice()),
+        _ => Ok(()),
     }
 }

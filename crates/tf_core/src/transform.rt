@@ -1,13 +1,13 @@
 // What is kept of a transform's life.
-ghost use Rattle.std.specs.Prelude.{◌≡◌, ◌+◌, ◌<◌, ◌≤◌, ◌^◌, length, vec_len, vec_capacity, nat_lt};
+ghost use Rattle.std.specs.Prelude.{◌≡◌, ◌<◌, ◌^◌, nat_lt};
 ghost use Rattle.tf_core.specs.Allowing as allowing;
-ghost use Rattle.tf_core.specs.Places.{AreAscending};
 ghost use Rattle.tf_core.specs.Steps.{Changed, started};
 ghost use Rattle.tf_core.specs.declared.ready.Change.TheVariants as change;
+ghost use Rattle.tf_dest.specs.Tables.{HavePlaces, held_keys};
 ghost use Rattle.tf_history.specs.Lives as lives;
 
-use crate::rows::put_rows;
-use tf_model::{Config, Key, List, Row, State, SumRange, Text};
+use tf_dest::{Dest, Held};
+use tf_model::{Config, Key, List, State, SumRange, Text};
 
 /// What is kept of a transform's life.
 #[derive(Drop)]
@@ -45,8 +45,8 @@ pub struct Transform {
     pub indexed: u128,
     /// The rows that retention took out.
     pub deleted: u128,
-    /// The destination, ascending by key.
-    pub rows: Vec<Row>,
+    /// The destination.
+    pub rows: Dest,
 }
 
 impl Transform {
@@ -110,18 +110,17 @@ impl Transform {
     }
 
     /// Writes a page of rows, of which the last has this key.
-    pub fn page(&mut self, n: u64, rows: Vec<Row>, position: Key)
-        requires room { vec_len self.old.rows + length rows.items ≤ vec_capacity self.old.rows }
+    pub fn page(&mut self, n: u64, rows: Vec<Held>, position: Key)
+        requires room { HavePlaces self.old.rows.places (held_keys rows.items) }
         requires pages { self.old.pages < 2 ^ 63 }
         requires processed { self.old.processed < 2 ^ 63 }
         requires indexed { self.old.indexed < 2 ^ 127 }
-        requires ascending { AreAscending self.old.rows.items }
         ensures { Changed 0 (change.Page n rows position) self.old self.new }
     {
         self.indexed += rows.len() as u128;
         self.pages += 1;
         self.processed += 1;
-        put_rows(&mut self.rows, rows);
+        self.rows.upsert_page(rows);
         self.position = Some(position);
     }
 

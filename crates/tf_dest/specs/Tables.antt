@@ -1,7 +1,7 @@
 -- Rows in the order of their keys.
-use Rattle.std.specs.Prelude.{ℤ, Bool, false, not, ◌||◌, if◌then◌else◌, List, [], ◌∷◌, map, IsTrue, Option, Some, None}
+use Rattle.std.specs.Prelude.{ℤ, Bool, false, not, ◌||◌, List, [], ◌∷◌, map, IsTrue, Option}
 use Rattle.std.specs.List.{AllByRecursion}
-use Rattle.std.specs.Ordering.{is_eq, match_ordering, eq_by_cmp}
+use Rattle.std.specs.Ordering.{is_eq, match_ordering}
 use Rattle.tf_model.specs.declared.entry.Row.{Row}
 use Rattle.tf_model.specs.declared.value.Key.{Key}
 use Rattle.tf_model.specs.Changed.{is_after}
@@ -40,14 +40,9 @@ abbrev pub put_page : List Held → List Held → List Held
 put_page [] held = held
 put_page (h ∷ page) held = put_page page (put h held)
 
--- the row of a key
-abbrev pub row_of_key : Key → List Held → Option Row
-row_of_key k [] = None
-row_of_key k (h ∷ held) = if eq_by_cmp key_cmp k (key_of h) then Some h.row else row_of_key k held
-
 -- whether a row is above a key; where there is none, each is
-abbrev pub is_above : Option Key → Held → Bool
-is_above after h = is_after after (key_of h)
+abbrev pub is_above : Option Key → Row → Bool
+is_above after r = is_after after (row_key r)
 
 -- whether retention takes a row out, and whether it leaves it
 abbrev pub is_gone : ℤ → Held → Bool

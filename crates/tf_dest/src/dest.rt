@@ -1,7 +1,10 @@
 // A destination.
 ghost use Rattle.std.specs.Prelude.{◌≡◌, [], OnOk, IfOk, IsTrue, count_by, filter, length, take};
+ghost use Rattle.std.specs.List.Sorted.{IsStrictlySortedBy};
 ghost use Rattle.std.specs.Option.{option_copied};
-ghost use Rattle.tf_dest.specs.Tables.{HavePlaces, KeepsPlaces, has_place, held_keys, is_above, is_gone, key_of, put, put_page, row_of_key, rows_of, stays};
+ghost use Rattle.tf_history.specs.Grouping.{row_at};
+ghost use Rattle.tf_model.specs.Order.{key_cmp};
+ghost use Rattle.tf_dest.specs.Tables.{HavePlaces, KeepsPlaces, has_place, held_keys, is_above, is_gone, key_of, put, put_page, rows_in, stays};
 
 use crate::due::Due;
 use crate::dues::{enter, store, take};
@@ -33,6 +36,8 @@ impl Model for Dest {
     ghost use Rattle.std.specs.Coded.{codes};
     ghost use Rattle.tf_dest.specs.Dues.{AreListed};
     ghost use Rattle.tf_dest.specs.Slots.{held_in};
+    ghost use Rattle.tf_history.specs.Grouping.{row_at};
+    ghost use Rattle.tf_model.specs.Order.{key_cmp};
     ghost use Rattle.tf_dest.specs.Tables.{Table};
 
     ghost Value = { Table };
@@ -58,10 +63,12 @@ impl Dest {
         }
     }
 
-    /// How many rows there are. Takes no memory.
+    /// How many rows there are. They ascend by key, each key once. Takes no memory.
     pub fn len(&self) -> usize
-        ensures { result ≡ length self.now.held }
+        ensures len { result ≡ length self.now.held }
+        ensures ascending { IsStrictlySortedBy key_cmp (held_keys self.now.held) }
     {
+        let _slots = self.slots.len();
         self.len
     }
 
@@ -150,7 +157,7 @@ impl Dest {
 
     /// A copy of the row of a key.
     pub fn get(&self, alloc: Global, key: &Key) -> Result<Option<Row>, OutOfMemory>
-        ensures { IfOk result (λ row. row ≡ row_of_key key.now self.now.held) }
+        ensures { IfOk result (λ row. row ≡ row_at key.now (rows_in self.now)) }
     {
         find(alloc, &self.slots, key)
     }
@@ -163,7 +170,7 @@ impl Dest {
         after: Option<&Key>,
         size: usize,
     ) -> Result<List<Row>, OutOfMemory>
-        ensures { IfOk result (λ rows. rows ≡ rows_of (take size (filter (is_above (option_copied after.entry)) self.now.held))) }
+        ensures { IfOk result (λ rows. rows ≡ take size (filter (is_above (option_copied after.entry)) (rows_in self.now))) }
     {
         copy_above(alloc, &self.slots, after, size)
     }

@@ -1,5 +1,5 @@
 use Rattle.std.proofs.Common.{◌<◌, ◌∙◌, length, arith, refl, subst}
-use Rattle.tf_core.specs.Chain.{HasRowRoom}
+use Rattle.tf_core.specs.Chain.{HasRowRoom, all_paged}
 use Rattle.tf_core.specs.Rooms.{SameButRoom}
 use Rattle.tf_core.proofs.Mapped.{get_or_any}
 use Rattle.tf_core.proofs.SameTables.{first_more, tables_itself, tables_set}
@@ -25,5 +25,5 @@ loop-at-preserved c =
     record {
       same = tables_set c.args.transforms.now.items l.transforms.items l.at new l.invariant.same low (subst (λ t. SameButRoom t new) (c.index_mut.ensures.value ∙ get_or_any l.transforms.items l.at old new low) c.make_room_in.ensures.same);
       len = l.invariant.len;
-      room = first_more (HasRowRoom c.args.steps.now) l.transforms.items l.at new l.invariant.room c.in_ok-make_room_in.ensures.room low;
+      room = first_more (HasRowRoom (all_paged c.args.steps.now)) l.transforms.items l.at new l.invariant.room c.in_ok-make_room_in.ensures.room low;
     }
