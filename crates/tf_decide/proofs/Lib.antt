@@ -1,7 +1,6 @@
 pub mod Lookups
 pub mod Sound
 pub mod Shown
-pub mod RowsAbove
 pub mod KeyFound
 pub mod Inside
 pub mod SpelledEntries

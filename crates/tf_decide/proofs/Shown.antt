@@ -28,6 +28,7 @@ use Rattle.tf_history.specs.Transforms.{PutTransform}
 use Rattle.tf_core.specs.Legal.{IsTakenPast, read, reading}
 use Rattle.tf_core.specs.declared.transform.Transform.{Transform}
 use Rattle.tf_core.specs.Table.{Tells}
+use Rattle.tf_dest.specs.Tables.{rows_in}
 use Rattle.tf_model.specs.Changed.{is_after}
 use Rattle.tf_decide.specs.declared.asked.Search.{Search}
 use Rattle.tf_decide.specs.Replying.{rows_above, shown_rows}
@@ -147,6 +148,6 @@ all_shown (e ∷ past) t taken =
     life_shown (documents (read past)) _ (life t (read past)) (act_shown t past e _ e.kind taken.1.legal.fits refl) (all_shown past t taken.0)
 
 -- what a transform is shown with
-pub told_shown : (docs : List Doc) (t : Transform) (o : Option Life) → Tells docs (Some t) o → IfSome o AreShown → AllByRecursion IsShown t.rows.items
+pub told_shown : (docs : List Doc) (t : Transform) (o : Option Life) → Tells docs (Some t) o → IfSome o AreShown → AllByRecursion IsShown (rows_in t.rows)
 told_shown docs t None tells shown = absurd tells
 told_shown docs t (Some l) tells shown = subst (AllByRecursion IsShown) (sym tells.rows) shown

@@ -9,7 +9,6 @@ mod decision;
 mod documents;
 mod finding;
 mod giving;
-mod hits;
 mod indices;
 mod laws;
 mod making;

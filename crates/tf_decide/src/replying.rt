@@ -9,16 +9,17 @@ ghost use Rattle.tf_reply.specs.declared.replies.Reply.TheVariants as reply;
 ghost use Rattle.tf_decide.specs.declared.asked.Answer.TheVariants as answer;
 ghost use Rattle.tf_core.specs.Legal.{read};
 ghost use Rattle.tf_core.specs.Lookups.{is_into};
-ghost use Rattle.tf_core.specs.Places.{AreAscending};
+ghost use Rattle.tf_dest.specs.Tables.{rows_in};
+ghost use Rattle.tf_history.specs.Meaning.{row_key};
 ghost use Rattle.tf_decide.specs.Ready.{Follows};
 ghost use Rattle.tf_decide.specs.Rows.{IsShown};
 ghost use Rattle.tf_decide.specs.Replying as spec;
 
 use crate::asked::{Answer, Search};
-use crate::hits::{key_of, shown_rows};
 use std::alloc::Global;
 use tf_core::{Core, Transform};
-use tf_model::{Config, Entry, List, OutOfMemory, Row, Shape, State, Text, Tree, copy_key};
+use tf_dest::Dest;
+use tf_model::{Config, Entry, Key, List, OutOfMemory, Row, Shape, State, Text, Tree};
 use tf_reply::{Hit, Reply, pivot_source};
 
 /// The reply to a line where these entries come behind the history of a core.
@@ -145,33 +146,50 @@ fn rows_found(
     search: &Search,
     transform: &Transform,
 ) -> Result<Reply, OutOfMemory>
-    requires shown { AllByRecursion IsShown transform.now.rows.items }
-    requires ascending { AreAscending transform.now.rows.items }
-    ensures { IfOk result (λ reply. reply ≡ spec.found_rows line no search.now transform.now.config transform.now.rows.items) }
+    requires { AllByRecursion IsShown (rows_in transform.now.rows) }
+    ensures { IfOk result (λ reply. reply ≡ spec.found_rows line no search.now transform.now.config (rows_in transform.now.rows)) }
 {
-    let rows = transform.rows.as_slice();
-    let hits = hits_of(alloc, &transform.config, shown_rows(search, rows))?;
-    Ok(found(line, no, hits, rows.len() as u64))
+    let rows = shown_rows(alloc, search, &transform.rows)?;
+    let hits = hits_of(alloc, &transform.config, rows)?;
+    Ok(found(line, no, hits, transform.rows.len() as u64))
 }
 
-fn hits_of(alloc: Global, config: &Config, rows: &[Row]) -> Result<List<Hit>, OutOfMemory>
-    requires { AllByRecursion IsShown rows.now }
-    ensures { IfOk result (λ hits. hits ≡ map (spec.hit_of config.now) rows.now) }
+// Copies of the rows that a search shows. Looks at no other row.
+fn shown_rows(alloc: Global, search: &Search, rows: &Dest) -> Result<List<Row>, OutOfMemory>
+    ensures { IfOk result (λ shown. shown ≡ spec.shown_rows search.now (rows_in rows.now)) }
+{
+    rows.rows_after(alloc, search.after.as_ref(), search.size as usize)
+}
+
+fn hits_of(alloc: Global, config: &Config, rows: List<Row>) -> Result<List<Hit>, OutOfMemory>
+    requires { AllByRecursion IsShown rows }
+    ensures { IfOk result (λ hits. hits ≡ map (spec.hit_of config.now) rows) }
 {
     let mut hits = List::new(alloc);
-    for row in rows {
+    for row in rows.into_vec() {
         hits.push(hit_of(alloc, config, row)?)?;
     }
     Ok(hits)
 }
 
-fn hit_of(alloc: Global, config: &Config, row: &Row) -> Result<Hit, OutOfMemory>
-    requires { IsShown row.now }
-    ensures { IfOk result (λ hit. hit ≡ spec.hit_of config.now row.now) }
+fn hit_of(alloc: Global, config: &Config, row: Row) -> Result<Hit, OutOfMemory>
+    requires { IsShown row }
+    ensures { IfOk result (λ hit. hit ≡ spec.hit_of config.now row) }
 {
-    let key = copy_key(alloc, key_of(row))?;
-    let source = source_of(alloc, config, row)?;
-    Ok(Hit { key, source })
+    let source = source_of(alloc, config, &row)?;
+    Ok(Hit {
+        key: key_of(row),
+        source,
+    })
+}
+
+fn key_of(row: Row) -> Key
+    ensures { result ≡ row_key row }
+{
+    match row {
+        Row::Pivot { key, .. } => key,
+        Row::Latest { key, .. } => key,
+    }
 }
 
 fn source_of(alloc: Global, config: &Config, row: &Row) -> Result<Tree, OutOfMemory>
