@@ -150,6 +150,11 @@ absent_key k es h = none_of (lookup (is_at (key_cmp k)) es) h
     none_of None h = refl
     none_of (Some x) h = absurd (let z : true ≡ false = h in cc)
 
+-- where a key that is there is not behind the last, one behind it is not there
+pub none_behind : (there low : Bool) → low ≡ true → (there ≡ true → low ≡ false) → false ≡ there
+none_behind true low e f = absurd (let z : true ≡ false = sym e ∙ f refl in cc)
+none_behind false low e f = refl
+
 pub reserved_on : (page : List Held) (i : ℕ) (h : Held) (now new : List Key) → drop i page ≡ h ∷ drop (i + 1) page → KeepsPlaces now new → IsTrue (has_place new (key_of h))
     → ((places : List Key) → KeepsPlaces now places → HavePlaces places (held_keys (drop i page)) → HavePlaces places (held_keys page))
     → (places : List Key) → KeepsPlaces new places → HavePlaces places (held_keys (drop (i + 1) page)) → HavePlaces places (held_keys page)
