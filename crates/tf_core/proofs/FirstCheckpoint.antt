@@ -98,7 +98,7 @@ row_or_sum k (a ∷ aggs) docs = by a.kind (row_or_sum k aggs docs)
     by Max later = put (unwrap_or (greatest (field_values a.field docs)) value.Null) (all_aggregated aggs docs) (first_wide_agg k aggs docs) later
     by ValueCount later = put (value.Int (pos (length (field_values a.field docs)))) (all_aggregated aggs docs) (first_wide_agg k aggs docs) later
 
-no_row : (c : Config) (k : Key) (docs : List Doc) → is_none (pivot_row c k docs) ≡ is_some (sum_range c k docs)
+pub no_row : (c : Config) (k : Key) (docs : List Doc) → is_none (pivot_row c k docs) ≡ is_some (sum_range c k docs)
 unfolding pivot_row sum_range
 no_row c k docs = mapped (all_aggregated (aggs_of c.shape) (with_key c k docs)) ∙ row_or_sum k (aggs_of c.shape) (with_key c k docs)
   where
@@ -106,7 +106,7 @@ no_row c k docs = mapped (all_aggregated (aggs_of c.shape) (with_key c k docs)) 
     mapped None = refl
     mapped (Some vs) = refl
 
-pivoted : (sources : List ℕ) (c : Config) (docs : List Doc) (k : Key) → is_pivot c.shape ≡ true → row_of sources c docs k ≡ pivot_row c k docs
+pub pivoted : (sources : List ℕ) (c : Config) (docs : List Doc) (k : Key) → is_pivot c.shape ≡ true → row_of sources c docs k ≡ pivot_row c k docs
 unfolding row_of
 pivoted sources c docs k pivot = rw pivot refl
 

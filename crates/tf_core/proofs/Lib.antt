@@ -39,3 +39,6 @@ pub mod KeyParts
 pub mod NextPages
 pub mod PageRows
 pub mod NextKind
+pub mod NextTaken
+pub mod Jobs
+pub mod JobLaws

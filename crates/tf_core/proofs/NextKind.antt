@@ -26,15 +26,15 @@ use Rattle.tf_history.specs.Lives.{Life, documents, last_bound, life, next_bound
 use Rattle.tf_history.specs.Reading as history
 use Rattle.tf_history.specs.Transforms.{PutTransform, transform_of}
 use Rattle.tf_history.proofs.MovesLaw.{moves_are_legal}
-use Rattle.tf_core.specs.declared.moving.What.{What}
-use Rattle.tf_core.specs.declared.moving.What.TheVariants as what
+use Rattle.tf_core.specs.declared.moving.Next.{Next}
+use Rattle.tf_core.specs.declared.moving.Next.TheVariants as turn
 use Rattle.tf_core.specs.declared.paging.NextPage.{NextPage}
 use Rattle.tf_core.specs.declared.paging.NextPage.TheVariants as page
 use Rattle.tf_core.specs.declared.transform.Transform.{Transform}
 use Rattle.tf_core.specs.Allowing.{first_wide, keys_left, keys_next, may_stop, read_by, wide_sum_at}
 use Rattle.tf_core.specs.Built.{is_built}
 use Rattle.tf_core.specs.Legal.{IsTaken, IsTakenPast, read, reading}
-use Rattle.tf_core.specs.Moves.{IsNextPage, IsPage, IsTakenAtOnce, clamped, kind_by, kind_of, last_ms_in, moment_after, move, moved, what_next}
+use Rattle.tf_core.specs.Moves.{IsNextPage, IsPage, clamped, kind_by, kind_of, last_ms_in, moment_after, moved, what_next}
 use Rattle.tf_core.specs.Sources.{is_among}
 use Rattle.tf_core.specs.Standing.{Stands}
 use Rattle.tf_core.specs.Summary.{IsSummary, put_of}
@@ -52,20 +52,31 @@ use Rattle.tf_core.proofs.Sums.{few_filter}
 use Rattle.tf_core.proofs.Truths.{both, int_at_most, same_nat}
 
 -- ---- the tests behind a choice
-abbrev choice : Bool → Bool → Bool → What
-choice stop begin index = if stop then what.Stopped else if begin then what.Begin else if index then what.Page else what.Nothing
+abbrev choice : Bool → Bool → Bool → Next
+choice stop begin index = if stop then turn.Stopped else if begin then turn.Begin else if index then turn.Page else turn.Nothing
 
-begins : (stop begin index : Bool) → choice stop begin index ≡ what.Begin → begin ≡ true
-begins true begin index e = absurd (let z : what.Stopped ≡ what.Begin = e in cc)
+begins : (stop begin index : Bool) → choice stop begin index ≡ turn.Begin → begin ≡ true
+begins true begin index e = absurd (let z : turn.Stopped ≡ turn.Begin = e in cc)
 begins false true index e = refl
-begins false false true e = absurd (let z : what.Page ≡ what.Begin = e in cc)
-begins false false false e = absurd (let z : what.Nothing ≡ what.Begin = e in cc)
+begins false false true e = absurd (let z : turn.Page ≡ turn.Begin = e in cc)
+begins false false false e = absurd (let z : turn.Nothing ≡ turn.Begin = e in cc)
 
-pages : (stop begin index : Bool) → choice stop begin index ≡ what.Page → index ≡ true
-pages true begin index e = absurd (let z : what.Stopped ≡ what.Page = e in cc)
-pages false true index e = absurd (let z : what.Begin ≡ what.Page = e in cc)
+pages : (stop begin index : Bool) → choice stop begin index ≡ turn.Page → index ≡ true
+pages true begin index e = absurd (let z : turn.Stopped ≡ turn.Page = e in cc)
+pages false true index e = absurd (let z : turn.Begin ≡ turn.Page = e in cc)
 pages false false true e = refl
-pages false false false e = absurd (let z : what.Nothing ≡ what.Page = e in cc)
+pages false false false e = absurd (let z : turn.Nothing ≡ turn.Page = e in cc)
+
+stays : (stop begin index : Bool) → choice stop begin index ≡ turn.Page → stop ≡ false
+stays true begin index e = absurd (let z : turn.Stopped ≡ turn.Page = e in cc)
+stays false begin index e = refl
+
+-- a transform whose checkpoint is moved on is active, with a checkpoint that is not finished, and does not come to its stop
+pub pages_next : (t : Transform) → what_next t ≡ turn.Page → (nat_lt t.finished t.begun && is_active t.state) ≡ true
+pages_next t e = pages (may_stop t) (is_started t.state && nat_eq t.begun 0) (nat_lt t.finished t.begun && is_active t.state) e
+
+pub not_stopped : (t : Transform) → what_next t ≡ turn.Page → may_stop t ≡ false
+not_stopped t e = stays (may_stop t) (is_started t.state && nat_eq t.begun 0) (nat_lt t.finished t.begun && is_active t.state) e
 
 -- ---- a transform that is there has a life
 pub record HasLife (past : List Entry) (docs : List Doc) (id : List ℕ) (t : Transform) : Type 0 where
@@ -98,10 +109,13 @@ module _ (past : List Entry) (indices : List SourceIndex) (docs : List Doc) (ts 
   next : (moment : ℤ) → next_move id (read past) moment ≡ deed_of past indices docs ts s id t l there h.is h.tells moment (what_next t)
   next moment = move_is past indices docs ts s id t l there h.is h.tells moment
 
-  pub nothing_kind : what_next t ≡ what.Nothing → (moment : ℤ) → None ≡ option_and_then kind_of (next_move id (read past) moment)
-  nothing_kind e moment = sym (ap (option_and_then kind_of) (next moment ∙ ap (deed_of past indices docs ts s id t l there h.is h.tells moment) e))
+  pub stop_deed : what_next t ≡ turn.Stopped → (moment : ℤ) → next_move id (read past) moment ≡ Some (Stopped id)
+  stop_deed e moment = next moment ∙ ap (deed_of past indices docs ts s id t l there h.is h.tells moment) e
 
-  begin_deed : what_next t ≡ what.Begin → (moment : ℤ) → next_move id (read past) moment ≡ Some (Begin id 1 None)
+  pub no_deed : what_next t ≡ turn.Nothing → (moment : ℤ) → next_move id (read past) moment ≡ None
+  no_deed e moment = next moment ∙ ap (deed_of past indices docs ts s id t l there h.is h.tells moment) e
+
+  pub begin_deed : what_next t ≡ turn.Begin → (moment : ℤ) → next_move id (read past) moment ≡ Some (Begin id 1 None)
   begin_deed e moment =
       let is_next : next_move id (read past) moment ≡ Some (begin_move id l moment) = next moment ∙ ap (deed_of past indices docs ts s id t l there h.is h.tells moment) e in
       let begun : t.begun ≡ 0 = same_nat t.begun 0 (both (is_started t.state) (nat_eq t.begun 0) (begins (may_stop t) (is_started t.state && nat_eq t.begun 0) (nat_lt t.finished t.begun && is_active t.state) e)).1 in
@@ -110,16 +124,13 @@ module _ (past : List Entry) (indices : List SourceIndex) (docs : List Doc) (ts 
       let first : l.finished + 1 ≡ 1 = let idle : l.finished ≡ length l.checkpoints = may.idle in let kept = h.tells.begun in omega arith in
       is_next ∙ (λ i. Some (Begin id (first i) (unbounded l.meaning (last_bound l.checkpoints) moment (is_batch past indices docs ts s id t l there h.is h.tells moment) i)))
 
-  pub begin_kind : what_next t ≡ what.Begin → (moment : ℤ) → Some (kind.Begin id 1 None) ≡ option_and_then kind_of (next_move id (read past) moment)
-  begin_kind e moment = sym (ap (option_and_then kind_of) (begin_deed e moment))
-
-  some_begun : what_next t ≡ what.Page → 0 < length l.checkpoints
+  some_begun : what_next t ≡ turn.Page → 0 < length l.checkpoints
   some_begun e =
-      let index = both (nat_lt t.finished t.begun) (is_active t.state) (pages (may_stop t) (is_started t.state && nat_eq t.begun 0) (nat_lt t.finished t.begun && is_active t.state) e) in
+      let index = both (nat_lt t.finished t.begun) (is_active t.state) (pages_next t e) in
       let below : t.finished < t.begun = ltb-true t.finished t.begun index.0 in
       omega (arith, below, h.tells.begun)
 
-  page_deed : (e : what_next t ≡ what.Page) (p : NextPage) → IsNextPage t docs p → (moment : ℤ)
+  page_deed : (e : what_next t ≡ turn.Page) (p : NextPage) → IsNextPage t docs p → (moment : ℤ)
       → next_move id (read past) moment ≡ Some (deed_by past indices docs ts s id t l there h.is h.tells moment p)
   page_deed e p made moment =
       next moment ∙ (ap (deed_of past indices docs ts s id t l there h.is h.tells moment) e ∙ page_next past indices docs ts s id t l there h.is h.tells moment (some_begun e) p made)
@@ -130,7 +141,7 @@ module _ (past : List Entry) (indices : List SourceIndex) (docs : List Doc) (ts 
   now_by (page.Rows []) = Finish id t.begun
   now_by (page.Rows (r ∷ rows)) = Page id t.begun (r ∷ rows)
 
-  now_deed : (e : what_next t ≡ what.Page) (p : NextPage) → IsNextPage t docs p → (moment : ℤ) → next_move id (read past) moment ≡ Some (now_by p)
+  now_deed : (e : what_next t ≡ turn.Page) (p : NextPage) → IsNextPage t docs p → (moment : ℤ) → next_move id (read past) moment ≡ Some (now_by p)
   now_deed e (page.Fails found) made moment =
       let is_next = page_deed e (page.Fails found) made moment in
       let may : MayFail l (l.finished + 1) found.key found.name found.value
@@ -150,7 +161,7 @@ module _ (past : List Entry) (indices : List SourceIndex) (docs : List Doc) (ts 
   kind_of_now (page.Rows []) = refl
   kind_of_now (page.Rows (r ∷ rows)) = refl
 
-  pub page_kind : (e : what_next t ≡ what.Page) (p : NextPage) → IsNextPage t docs p → (moment : ℤ)
+  pub page_kind : (e : what_next t ≡ turn.Page) (p : NextPage) → IsNextPage t docs p → (moment : ℤ)
       → Some (kind_by id t.begun p) ≡ option_and_then kind_of (next_move id (read past) moment)
   page_kind e p made moment = sym (ap (option_and_then kind_of) (now_deed e p made moment) ∙ kind_of_now p)
 
@@ -217,12 +228,10 @@ module _ (past : List Entry) (indices : List SourceIndex) (docs : List Doc) (ts 
     built = form;
   }
 
-  pub stop_taken : what_next t ≡ what.Stopped → (moment : ℤ) → IsTimely moment → IsTaken past (moved moment (kind.Stopped id))
-  stop_taken e moment time =
-      let kept = has_life past indices docs ts s id t there in
-      taken_next moment (kind.Stopped id) (Stopped id) time (next past indices docs ts s id t there moment ∙ ap (deed_of past indices docs ts s id t kept.found there kept.is kept.tells moment) e) refl tt refl
+  pub stop_taken : what_next t ≡ turn.Stopped → (moment : ℤ) → IsTimely moment → IsTaken past (moved moment (kind.Stopped id))
+  stop_taken e moment time = taken_next moment (kind.Stopped id) (Stopped id) time (stop_deed past indices docs ts s id t there e moment) refl tt refl
 
-  pub begin_taken : what_next t ≡ what.Begin → (moment : ℤ) → IsTimely moment → IsTaken past (moved moment (kind.Begin id 1 None))
+  pub begin_taken : what_next t ≡ turn.Begin → (moment : ℤ) → IsTimely moment → IsTaken past (moved moment (kind.Begin id 1 None))
   begin_taken e moment time = taken_next moment (kind.Begin id 1 None) (Begin id 1 None) time (begin_deed past indices docs ts s id t there e moment) refl tt refl
 
   -- the texts of the next entry are short
@@ -254,7 +263,7 @@ module _ (past : List Entry) (indices : List SourceIndex) (docs : List Doc) (ts 
           by None is rest f = rest f
           by (Some other) is rest f = subst (IsKeyBy IsShort t.config) (sym (range_key t.config k (counted t.config t.bound (read_by t docs)) found (is ∙ f))) all.0
 
-  pub page_taken : length docs < 2 ^ 63 → what_next t ≡ what.Page → (p : NextPage) → IsNextPage t docs p → (moment : ℤ) → IsTimely moment → IsTaken past (moved moment (kind_by id t.begun p))
+  pub page_taken : length docs < 2 ^ 63 → what_next t ≡ turn.Page → (p : NextPage) → IsNextPage t docs p → (moment : ℤ) → IsTimely moment → IsTaken past (moved moment (kind_by id t.begun p))
   unfolding reading
   page_taken few e (page.Fails found) made moment time =
       taken_next moment (kind.Fail id t.begun found.key found.name found.value) (Fail id t.begun found.key found.name found.value) time (now_deed past indices docs ts s id t there e (page.Fails found) made moment) refl tt refl
@@ -299,14 +308,3 @@ given_is_timely past given taken = by (int_le (last_ms_in past) (clamped given))
     by : (b : Bool) → int_le (last_ms_in past) (clamped given) ≡ b → IsSpan (if b then clamped given else last_ms_in past) × IsNotBefore (if b then clamped given else last_ms_in past) (read past)
     by true e = (clamped_is given, not_before past (clamped given) (int_at_most (last_ms_in past) (clamped given) e))
     by false e = last_is_timely past taken
-
-pub entry_is : (past : List Entry) (id : List ℕ) (k : Option Kind) (at_ms : ℤ) → ((moment : ℤ) → k ≡ option_and_then kind_of (next_move id (read past) moment)) → option_map (moved at_ms) k ≡ move id past at_ms
-entry_is past id k at_ms next = ap (option_map (moved at_ms)) (next at_ms)
-
-pub entry_taken : (past : List Entry) (k : Option Kind) (given : ℤ) → IsTakenPast past → IfSome k (IsTakenAtOnce past) → IfSome (option_map (moved (moment_after past given)) k) (IsTaken past)
-entry_taken past None given taken h = tt
-entry_taken past (Some k) given taken h = let time = given_is_timely past given taken in h (moment_after past given) time.0 time.1
-
-pub short_entry : (k : Option Kind) (at_ms : ℤ) → IfSome k IsShortKind → IfSome (option_map (moved at_ms) k) (λ (e : Entry). IsShortKind e.kind)
-short_entry None at_ms h = tt
-short_entry (Some k) at_ms h = h

@@ -13,8 +13,8 @@ use Rattle.tf_history.specs.Events.Deed.{Stopped, Fail, Page, Finish}
 use Rattle.tf_history.specs.Legality.{next_move, move_of, page_move, begin_move, fail_move, next_page, row_now, failing, is_started, is_active, is_due, has_window, is_time}
 use Rattle.tf_history.specs.Legality as legality
 use Rattle.tf_history.specs.Lives.{Life, Checkpoint, life, documents}
-use Rattle.tf_core.specs.declared.moving.What.{What}
-use Rattle.tf_core.specs.declared.moving.What.TheVariants as what
+use Rattle.tf_core.specs.declared.moving.Next.{Next}
+use Rattle.tf_core.specs.declared.moving.Next.TheVariants as turn
 use Rattle.tf_core.specs.declared.paging.NextPage.{NextPage}
 use Rattle.tf_core.specs.declared.paging.NextPage.TheVariants as page
 use Rattle.tf_core.specs.declared.transform.Transform.{Transform}
@@ -27,7 +27,7 @@ use Rattle.tf_core.specs.Table.{transform_at}
 use Rattle.tf_core.proofs.AllowedTransforms.{stop_is}
 use Rattle.tf_core.proofs.FirstCheckpoint as first
 
-rows_made : (f g : Key → Option Row) → ((k : Key) → f k ≡ g k) → (ks : List Key) (rows : List Row) → map Some rows ≡ map g ks → filter_map f ks ≡ rows
+pub rows_made : (f g : Key → Option Row) → ((k : Key) → f k ≡ g k) → (ks : List Key) (rows : List Row) → map Some rows ≡ map g ks → filter_map f ks ≡ rows
 rows_made f g same [] [] made = refl
 rows_made f g same [] (r ∷ rows) made = absurd (cc)
 rows_made f g same (k ∷ ks) [] made = absurd (cc)
@@ -54,15 +54,15 @@ module _ (past : List Entry) (indices : List SourceIndex) (docs : List Doc) (ts 
       ∙ ap (λ n. nat_eq n 0) (sym sum.begun)
 
   -- the deed of the move that what is kept tells
-  abbrev pub deed_of : What → Option Deed
-  deed_of what.Stopped = Some (Stopped id)
-  deed_of what.Begin = Some (begin_move id l moment)
-  deed_of what.Page = page_move id l (failing l) (next_page l)
-  deed_of what.Nothing = None
+  abbrev pub deed_of : Next → Option Deed
+  deed_of turn.Stopped = Some (Stopped id)
+  deed_of turn.Begin = Some (begin_move id l moment)
+  deed_of turn.Page = page_move id l (failing l) (next_page l)
+  deed_of turn.Nothing = None
 
   chosen : (stop begin index : Bool)
       → (if stop then Some (Stopped id) else if begin then Some (begin_move id l moment) else if index then page_move id l (failing l) (next_page l) else None)
-      ≡ deed_of (if stop then what.Stopped else if begin then what.Begin else if index then what.Page else what.Nothing)
+      ≡ deed_of (if stop then turn.Stopped else if begin then turn.Begin else if index then turn.Page else turn.Nothing)
   chosen true begin index = refl
   chosen false true index = refl
   chosen false false true = refl

@@ -27,7 +27,7 @@ use Rattle.tf_core.specs.Moves.{IsAnswerFor, IsNextPage}
 ascending_keys : (c : Config) (docs : List Doc) → IsAscending (all_keys c docs)
 ascending_keys c docs = subst IsAscending ((meanings_agree [] c).all_keys_is docs) (ascending-all_keys (meaning [] c) docs)
 
-ascending_take : (n : ℕ) (keys : List Key) → IsAscending keys → IsAscending (take n keys)
+pub ascending_take : (n : ℕ) (keys : List Key) → IsAscending keys → IsAscending (take n keys)
 ascending_take zero keys h = tt
 ascending_take (suc n) [] h = tt
 ascending_take (suc n) (k ∷ keys) h = (below n keys h.0, ascending_take n keys h.1)
@@ -43,6 +43,12 @@ next_ascend t docs =
     ascending_take t.config.page_size (changed_above t.config None t.bound t.position (read_by t docs))
     (ascending_filter (is_after t.position) (changed t.config None t.bound (read_by t docs)) (ascending_keys t.config (window t.config None t.bound (read_by t docs))))
 
+-- a key that is below all of these is above none that is among them
+pub not_below : (k : Key) (keys : List Key) (n : ℕ) (found : Key) → IsBelowAll k keys → n < length keys → slice_index_or keys n found ≡ found → is_gt (key_cmp found k) ≡ true
+not_below k [] n found below low at = absurd (omega (arith, low))
+not_below k (j ∷ keys) zero found below low at = ap is_gt (cmp_back k found Less (subst (λ x. key_cmp k x ≡ Less) at below.0))
+not_below k (j ∷ keys) (suc n) found below low at = not_below k keys n found below.1 (omega (arith, low)) at
+
 module _ (t : Transform) (docs : List Doc) where
   none_wide : (keys : List Key) → AllByRecursion (λ k. wide_sum_at t docs k ≡ None) keys → first_wide t docs keys ≡ None
   none_wide [] all = refl
@@ -51,12 +57,6 @@ module _ (t : Transform) (docs : List Doc) where
   -- no key is above the least one that has a sum
   abbrev IsLeast : Key → Key → Type 0
   IsLeast found k = IsSome (wide_sum_at t docs k) → is_gt (key_cmp found k) ≡ false
-
-  -- a key that is below all of these is above none that is among them
-  not_below : (k : Key) (keys : List Key) (n : ℕ) (found : Key) → IsBelowAll k keys → n < length keys → slice_index_or keys n found ≡ found → is_gt (key_cmp found k) ≡ true
-  not_below k [] n found below low at = absurd (omega (arith, low))
-  not_below k (j ∷ keys) zero found below low at = ap is_gt (cmp_back k found Less (subst (λ x. key_cmp k x ≡ Less) at below.0))
-  not_below k (j ∷ keys) (suc n) found below low at = not_below k keys n found below.1 (omega (arith, low)) at
 
   first_found : (keys : List Key) (n : ℕ) (found : SumRange) → IsAscending keys → n < length keys → slice_index_or keys n found.key ≡ found.key → wide_sum_at t docs found.key ≡ Some found
       → AllByRecursion (IsLeast found.key) keys → first_wide t docs keys ≡ Some found

@@ -18,6 +18,7 @@ pub mod Standing
 pub mod Made
 pub mod Preparing
 pub mod Moves
+pub mod Job
 pub mod Lookups
 pub mod Texts
 pub mod Listing

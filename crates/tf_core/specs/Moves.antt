@@ -14,15 +14,16 @@ use Rattle.tf_history.specs.Events.{Deed}
 use Rattle.tf_history.specs.Events.Deed.{Stopped, Fail, Begin, Page, Finish}
 use Rattle.tf_history.specs.Legality.{next_move, is_started, is_active}
 use Rattle.tf_pivot.specs.Found.{AreRows, IsLeastRange}
-use Rattle.tf_core.specs.declared.moving.What.{What}
-use Rattle.tf_core.specs.declared.moving.What.TheVariants as what
+use Rattle.tf_reader.specs.Places.{documents}
+use Rattle.tf_core.specs.declared.job.Running.{Running}
+use Rattle.tf_core.specs.declared.moving.Next.{Next}
+use Rattle.tf_core.specs.declared.moving.Next.TheVariants as turn
 use Rattle.tf_core.specs.declared.paging.NextPage.{NextPage}
 use Rattle.tf_core.specs.declared.paging.NextPage.TheVariants as next_page
 use Rattle.tf_core.specs.declared.transform.Transform.{Transform}
 use Rattle.tf_core.specs.Allowing.{failure, keys_next, may_stop, read_by}
-use Rattle.tf_model.specs.Conditions.{IsSpan, greatest_date}
-use Rattle.tf_history.specs.Legality.{IsNotBefore}
-use Rattle.tf_core.specs.Legal.{IsTaken, read}
+use Rattle.tf_model.specs.Conditions.{greatest_date}
+use Rattle.tf_core.specs.Legal.{read}
 
 -- the moment of the newest entry of a past, 0 where there is none
 abbrev pub last_ms_in : List Entry → ℤ
@@ -62,12 +63,12 @@ abbrev pub move : List ℕ → List Entry → ℤ → Option Entry
 move id past at_ms = option_map (moved at_ms) (option_and_then kind_of (next_move id (read past) at_ms))
 
 -- which move comes next, by what is kept of a batch transform
-abbrev pub what_next : Transform → What
+abbrev pub what_next : Transform → Next
 what_next t =
-    if may_stop t then what.Stopped
-    else if is_started t.state && nat_eq t.begun 0 then what.Begin
-    else if nat_lt t.finished t.begun && is_active t.state then what.Page
-    else what.Nothing
+    if may_stop t then turn.Stopped
+    else if is_started t.state && nat_eq t.begun 0 then turn.Begin
+    else if nat_lt t.finished t.begun && is_active t.state then turn.Page
+    else turn.Nothing
 
 -- what is made of the keys of a page: the row of each, or the first sum outside i64 of the least that has one
 abbrev pub IsAnswerFor : Config → List Doc → List Key → NextPage → Type 0
@@ -89,6 +90,11 @@ kind_by id n (next_page.Fails found) = kind.Fail id n found.key found.name found
 kind_by id n (next_page.Rows []) = kind.Finish id n
 kind_by id n (next_page.Rows (r ∷ rows)) = kind.Page id n (r ∷ rows)
 
--- an entry of this kind, made by the indexer at any moment that is not before the last, is taken
-abbrev pub IsTakenAtOnce : List Entry → Kind → Type 0
-IsTakenAtOnce past kind = (moment : ℤ) → IsSpan moment → IsNotBefore moment (read past) → IsTaken past (moved moment kind)
+-- the newest checkpoint of a batch transform
+pub record IsRunningOf (t : Transform) (docs : List Doc) (r : Running) : Type 0 where
+  pub number : r.n ≡ t.begun
+  pub config : r.config ≡ t.config
+  pub low : r.low ≡ None
+  pub high : r.high ≡ t.bound
+  pub position : r.after ≡ t.position
+  pub docs_are : documents r.reader ≡ read_by t docs

@@ -12,6 +12,7 @@ mod catalogue;
 mod counts;
 mod ids;
 mod index;
+mod job;
 mod kept;
 mod late;
 mod laws;
@@ -36,7 +37,11 @@ mod writing;
 
 pub use built::is_built_config;
 pub use index::Index;
-pub use laws::{aligned_keys_are_apart, stamped_documents_are_never_late, taken_entries_are_legal};
+pub use job::{Job, Running, What, Work};
+pub use laws::{
+    aligned_keys_are_apart, running_checkpoints_go_on, stamped_documents_are_never_late,
+    taken_entries_are_legal,
+};
 pub use ready::Ready;
 pub use state::Core;
 pub use transform::Transform;

@@ -1,36 +1,36 @@
 // The indexer's next move.
-ghost use Rattle.std.specs.Prelude.{◌≡◌, ◌<◌, ◌^◌, ℤ, IfOk, IfSome, Some, length, reverse};
-ghost use Rattle.std.specs.Option.{option_and_then, option_map};
-ghost use Rattle.tf_history.specs.Legality.{next_move};
-ghost use Rattle.tf_core.specs.declared.moving.What.TheVariants as what;
-ghost use Rattle.tf_core.specs.Kept.{past_in};
-ghost use Rattle.tf_core.specs.Legal.{IsTaken, read};
-ghost use Rattle.tf_core.specs.Moves as spec;
-ghost use Rattle.tf_core.specs.Moves.{IsTakenAtOnce, kind_of, moment_after};
+ghost use Rattle.std.specs.Prelude.{◌≡◌, ◌<◌, ◌≤◌, ◌^◌, ℤ, IfOk, Some, length, reverse};
 ghost use Rattle.std.specs.List.{AllByRecursion};
 ghost use Rattle.tf_history.specs.Lives.{documents};
 ghost use Rattle.tf_history.specs.Transforms.{transforms as puts};
+ghost use Rattle.tf_core.specs.declared.moving.Next.TheVariants as turn;
+ghost use Rattle.tf_core.specs.Job.{Fits, IsJob, IsRunningAt, IsWhat, kind_for};
+ghost use Rattle.tf_core.specs.Kept.{past_in};
+ghost use Rattle.tf_core.specs.Legal.{IsTaken, read};
+ghost use Rattle.tf_core.specs.Moves as spec;
+ghost use Rattle.tf_core.specs.Moves.{IsRunningOf, moment_after, moved};
 ghost use Rattle.tf_core.specs.Standing.{Stands, shared};
-ghost use Rattle.tf_core.specs.Texts.{HasTexts, IsShort, IsShortConfig, IsShortKind, IsShortPut};
 ghost use Rattle.tf_core.specs.Table.{transform_at};
+ghost use Rattle.tf_core.specs.Texts.{HasTexts, IsShort, IsShortKind, IsShortPut};
 
 use crate::allowing::{GREATEST_DATE, is_active, is_started, may_stop};
 use crate::index::Index;
+use crate::job::{Job, Running, What, Work};
 use crate::kept::Kept;
-use crate::paging::{NextPage, next_page};
+use crate::reading::reader_of;
 use crate::state::Core;
 use crate::table::find;
 use crate::taking::last_moment;
 use crate::transform::Transform;
 use std::alloc::Global;
 use std::sync::Arc;
-use tf_model::{Doc, Entry, Kind, OutOfMemory, Text};
+use tf_model::{Doc, Entry, Key, Kind, OutOfMemory, Text, copy_config, copy_key};
 
 const INDEXER: u8 = 8;
 
 /// Which move comes next.
 #[derive(Clone, Copy, PartialEq, Eq, Debug)]
-pub enum What {
+pub enum Next {
     /// The transform comes to its stop.
     Stopped,
     /// A checkpoint begins.
@@ -42,95 +42,17 @@ pub enum What {
 }
 
 /// Which move of a batch transform comes next.
-pub fn what_next(transform: &Transform) -> What
+pub fn what_next(transform: &Transform) -> Next
     ensures { result ≡ spec.what_next transform.now }
 {
     if may_stop(transform) {
-        What::Stopped
+        Next::Stopped
     } else if is_started(transform.state) && transform.begun == 0 {
-        What::Begin
+        Next::Begin
     } else if transform.finished < transform.begun && is_active(transform.state) {
-        What::Page
+        Next::Page
     } else {
-        What::Nothing
-    }
-}
-
-/// What the next move of a transform does, none where it has none.
-pub fn next_kind(
-    alloc: Global,
-    entries: &[Kept],
-    indices: &[Index],
-    docs: &[Arc<Doc, Global>],
-    transforms: &[Transform],
-    id: &Text,
-    found: &Transform,
-) -> Result<Option<Kind>, OutOfMemory>
-    requires stands { Stands (past_in entries.now) indices.now (shared docs.now) transforms.now }
-    requires found { transform_at id.now transforms.now ≡ Some found.now }
-    ensures next { IfOk result (λ kind. (moment : ℤ) → kind ≡ option_and_then kind_of (next_move id.now (read (past_in entries.now)) moment)) }
-    ensures taken { IfOk result (λ kind. IfSome kind (IsTakenAtOnce (past_in entries.now))) }
-    ensures short { AllByRecursion (HasTexts IsShort) (shared docs.now) → IsShortConfig found.now.config → IfOk result (λ kind. IfSome kind IsShortKind) }
-{
-    match what_next(found) {
-        What::Stopped => Ok(Some(Kind::Stopped {
-            id: id.copy(alloc)?,
-        })),
-        What::Begin => Ok(Some(Kind::Begin {
-            id: id.copy(alloc)?,
-            n: 1,
-            bound: None,
-        })),
-        What::Page => {
-            let kind = page_kind(alloc, entries, indices, docs, transforms, id, found)?;
-            Ok(Some(kind))
-        }
-        What::Nothing => Ok(None),
-    }
-}
-
-// The next page of the running checkpoint, its finish where no changed key is above the position, or its failure.
-fn page_kind(
-    alloc: Global,
-    entries: &[Kept],
-    indices: &[Index],
-    docs: &[Arc<Doc, Global>],
-    transforms: &[Transform],
-    id: &Text,
-    found: &Transform,
-) -> Result<Kind, OutOfMemory>
-    requires stands { Stands (past_in entries.now) indices.now (shared docs.now) transforms.now }
-    requires found { transform_at id.now transforms.now ≡ Some found.now }
-    requires page { spec.what_next found.now ≡ what.Page }
-    requires few { length docs.now < 2 ^ 63 }
-    ensures next { IfOk result (λ kind. (moment : ℤ) → Some kind ≡ option_and_then kind_of (next_move id.now (read (past_in entries.now)) moment)) }
-    ensures taken { IfOk result (IsTakenAtOnce (past_in entries.now)) }
-    ensures short { AllByRecursion (HasTexts IsShort) (shared docs.now) → IsShortConfig found.now.config → IfOk result IsShortKind }
-{
-    let page = next_page(alloc, found, docs)?;
-    let id = id.copy(alloc)?;
-    Ok(kind_by(id, found.begun, page))
-}
-
-// What a checkpoint gets next, as an entry's kind.
-fn kind_by(id: Text, n: u64, page: NextPage) -> Kind
-    ensures { result ≡ spec.kind_by id n page }
-{
-    match page {
-        NextPage::Fails(sum) => Kind::Fail {
-            id,
-            n,
-            key: sum.key,
-            name: sum.name,
-            value: sum.value,
-        },
-        NextPage::Rows(rows) => {
-            if rows.is_empty() {
-                Kind::Finish { id, n }
-            } else {
-                Kind::Page { id, n, rows }
-            }
-        }
+        Next::Nothing
     }
 }
 
@@ -143,29 +65,45 @@ impl Core {
         moment_of(self.entries.as_slice(), now)
     }
 
-    /// The entry of the next move of a transform at the moment that a given one makes, none where it has none. The entry is
-    /// taken next. Where the texts of documents and the names of aggregations have lengths that fit four bytes, so have those
-    /// of the entry.
-    pub fn next_entry(&self, id: &Text, now: i64) -> Result<Option<Entry>, OutOfMemory>
-        ensures next { IfOk result (λ entry. entry ≡ spec.move id.now (reverse self.now.history) (moment_after (reverse self.now.history) now)) }
-        ensures taken { IfOk result (λ entry. IfSome entry (IsTaken (reverse self.now.history))) }
-        ensures short { AllByRecursion (HasTexts IsShort) (documents (read (reverse self.now.history))) → AllByRecursion IsShortPut (puts (reverse self.now.history)) → IfOk result (λ entry. IfSome entry (λ e. IsShortKind e.kind)) }
+    /// The job of a transform at the moment that a given one makes, none exactly where it has no next move.
+    pub fn job(&self, id: &Text, now: i64) -> Result<Option<Job>, OutOfMemory>
+        ensures { IfOk result (IsJob (reverse self.now.history) (moment_after (reverse self.now.history) now) id.now) }
     {
+        let _given = now;
         let entries = self.entries.as_slice();
         let indices = self.indices.as_slice();
         let docs = self.docs.as_slice();
         let transforms = self.transforms.as_slice();
         match find(transforms, id) {
             None => Ok(None),
-            Some(found) => next_of(
-                self.alloc, entries, indices, docs, transforms, id, found, now,
-            ),
+            Some(found) => job_of(self.alloc, entries, indices, docs, transforms, id, found),
         }
+    }
+
+    /// The entry of a work that fits a transform, at the moment that a given one makes. It is taken next. Where the texts of
+    /// documents and the names of aggregations have lengths that fit four bytes, so have those of the entry.
+    pub fn entry(&self, id: &Text, work: Work, now: i64) -> Result<Entry, OutOfMemory>
+        requires { Fits (reverse self.now.history) (moment_after (reverse self.now.history) now) id.now work }
+        ensures made { IfOk result (λ entry. entry ≡ moved (moment_after (reverse self.now.history) now) (kind_for id.now work)) }
+        ensures next { IfOk result (λ entry. Some entry ≡ spec.move id.now (reverse self.now.history) (moment_after (reverse self.now.history) now)) }
+        ensures taken { IfOk result (IsTaken (reverse self.now.history)) }
+        ensures short { AllByRecursion (HasTexts IsShort) (documents (read (reverse self.now.history))) → AllByRecursion IsShortPut (puts (reverse self.now.history)) → IfOk result (λ entry. IsShortKind entry.kind) }
+    {
+        entry_of(
+            self.alloc,
+            self.entries.as_slice(),
+            self.indices.as_slice(),
+            self.docs.as_slice(),
+            self.transforms.as_slice(),
+            id,
+            work,
+            now,
+        )
     }
 }
 
-// The entry of the next move of a transform that is there.
-fn next_of(
+// The job of a transform that is there.
+fn job_of(
     alloc: Global,
     entries: &[Kept],
     indices: &[Index],
@@ -173,28 +111,142 @@ fn next_of(
     transforms: &[Transform],
     id: &Text,
     found: &Transform,
-    now: i64,
-) -> Result<Option<Entry>, OutOfMemory>
+) -> Result<Option<Job>, OutOfMemory>
     requires stands { Stands (past_in entries.now) indices.now (shared docs.now) transforms.now }
     requires found { transform_at id.now transforms.now ≡ Some found.now }
-    ensures next { IfOk result (λ entry. entry ≡ spec.move id.now (past_in entries.now) (moment_after (past_in entries.now) now)) }
-    ensures taken { IfOk result (λ entry. IfSome entry (IsTaken (past_in entries.now))) }
-    ensures short { AllByRecursion (HasTexts IsShort) (shared docs.now) → AllByRecursion IsShortPut (puts (past_in entries.now)) → IfOk result (λ entry. IfSome entry (λ e. IsShortKind e.kind)) }
+    ensures { IfOk result (λ job. (moment : ℤ) → IsJob (past_in entries.now) moment id.now job) }
 {
-    let kind = next_kind(alloc, entries, indices, docs, transforms, id, found)?;
-    Ok(entry_of(moment_of(entries, now), kind))
+    match what_of(alloc, entries, indices, docs, transforms, id, found)? {
+        Some(what) => Ok(Some(Job {
+            id: id.copy(alloc)?,
+            what,
+        })),
+        None => Ok(None),
+    }
+}
+
+// What the next move of a transform is.
+fn what_of(
+    alloc: Global,
+    entries: &[Kept],
+    indices: &[Index],
+    docs: &[Arc<Doc, Global>],
+    transforms: &[Transform],
+    id: &Text,
+    found: &Transform,
+) -> Result<Option<What>, OutOfMemory>
+    requires stands { Stands (past_in entries.now) indices.now (shared docs.now) transforms.now }
+    requires found { transform_at id.now transforms.now ≡ Some found.now }
+    ensures { IfOk result (λ what. (moment : ℤ) → IsWhat (past_in entries.now) moment id.now what) }
+{
+    match what_next(found) {
+        Next::Stopped => Ok(Some(What::Stopped)),
+        Next::Begin => Ok(Some(What::Begin { n: 1 })),
+        Next::Page => {
+            let running = checkpoint_of(alloc, entries, indices, docs, transforms, id, found)?;
+            Ok(Some(What::Page(running)))
+        }
+        Next::Nothing => Ok(None),
+    }
+}
+
+// The running checkpoint that the next move moves on.
+fn checkpoint_of(
+    alloc: Global,
+    entries: &[Kept],
+    indices: &[Index],
+    docs: &[Arc<Doc, Global>],
+    transforms: &[Transform],
+    id: &Text,
+    found: &Transform,
+) -> Result<Running, OutOfMemory>
+    requires stands { Stands (past_in entries.now) indices.now (shared docs.now) transforms.now }
+    requires found { transform_at id.now transforms.now ≡ Some found.now }
+    requires page { spec.what_next found.now ≡ turn.Page }
+    ensures { IfOk result (IsRunningAt (past_in entries.now) id.now) }
+{
+    running_of(alloc, found, docs)
+}
+
+// The newest checkpoint of a batch transform.
+fn running_of(
+    alloc: Global,
+    transform: &Transform,
+    docs: &[Arc<Doc, Global>],
+) -> Result<Running, OutOfMemory>
+    requires within { transform.now.read ≤ length docs.now }
+    ensures { IfOk result (IsRunningOf transform.now (shared docs.now)) }
+{
+    Ok(Running {
+        n: transform.begun,
+        config: copy_config(alloc, &transform.config)?,
+        low: None,
+        high: transform.bound,
+        after: copy_position(alloc, &transform.position)?,
+        reader: reader_of(alloc, transform, docs)?,
+    })
+}
+
+fn copy_position(alloc: Global, position: &Option<Key>) -> Result<Option<Key>, OutOfMemory>
+    ensures { IfOk result (λ copy. copy ≡ position.now) }
+{
+    match position {
+        Some(key) => Ok(Some(copy_key(alloc, key)?)),
+        None => Ok(None),
+    }
+}
+
+// The entry of a work that fits.
+fn entry_of(
+    alloc: Global,
+    entries: &[Kept],
+    indices: &[Index],
+    docs: &[Arc<Doc, Global>],
+    transforms: &[Transform],
+    id: &Text,
+    work: Work,
+    now: i64,
+) -> Result<Entry, OutOfMemory>
+    requires stands { Stands (past_in entries.now) indices.now (shared docs.now) transforms.now }
+    requires fits { Fits (past_in entries.now) (moment_after (past_in entries.now) now) id.now work }
+    requires few { length docs.now < 2 ^ 63 }
+    ensures made { IfOk result (λ entry. entry ≡ moved (moment_after (past_in entries.now) now) (kind_for id.now work)) }
+    ensures next { IfOk result (λ entry. Some entry ≡ spec.move id.now (past_in entries.now) (moment_after (past_in entries.now) now)) }
+    ensures taken { IfOk result (IsTaken (past_in entries.now)) }
+    ensures short { AllByRecursion (HasTexts IsShort) (shared docs.now) → AllByRecursion IsShortPut (puts (past_in entries.now)) → IfOk result (λ entry. IsShortKind entry.kind) }
+{
+    let entry = moved_by(moment_of(entries, now), id.copy(alloc)?, work);
+    Ok(entry)
 }
 
 // An entry of the indexer.
-fn entry_of(at_ms: i64, kind: Option<Kind>) -> Option<Entry>
-    ensures { result ≡ option_map (spec.moved at_ms) kind }
+fn moved_by(at_ms: i64, id: Text, work: Work) -> Entry
+    ensures { result ≡ moved at_ms (kind_for id work) }
 {
-    let kind = kind?;
-    Some(Entry {
+    Entry {
         at_ms,
         actor: INDEXER,
-        kind,
-    })
+        kind: kind_of(id, work),
+    }
+}
+
+// What a work does, as an entry's kind.
+fn kind_of(id: Text, work: Work) -> Kind
+    ensures { result ≡ kind_for id work }
+{
+    match work {
+        Work::Stopped => Kind::Stopped { id },
+        Work::Begin { n } => Kind::Begin { id, n, bound: None },
+        Work::Page { n, rows } => Kind::Page { id, n, rows },
+        Work::Finish { n } => Kind::Finish { id, n },
+        Work::Fail { n, sum } => Kind::Fail {
+            id,
+            n,
+            key: sum.key,
+            name: sum.name,
+            value: sum.value,
+        },
+    }
 }
 
 // The moment of an entry after these, where a moment is given.
