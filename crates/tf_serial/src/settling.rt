@@ -1,6 +1,7 @@
 // The moves of a settling at a given moment.
-ghost use Rattle.std.specs.Prelude.{◌≡◌, IfErr, IfOk, IfSome, OnOk, reverse};
+ghost use Rattle.std.specs.Prelude.{◌≡◌, ◌∷◌, IfErr, IfOk, IfSome, MatchOption, OnOk, reverse};
 ghost use Rattle.tf_core.specs.Listing.{ids_after};
+ghost use Rattle.tf_indexer.specs.Holding.{IsAt};
 ghost use Rattle.tf_serial.specs.Frames.{IsMove, IsOfPass, IsSettling};
 ghost use Rattle.tf_serial.specs.Moves.{IsSettled, moved_out, moves, next_move, pass, settled};
 ghost use Rattle.tf_serial.specs.Parts.{Fits, IsNext, Runs, Stops};
@@ -12,6 +13,7 @@ use crate::committing::commit_entry;
 use std::alloc::Global;
 use tf_core::Core;
 use tf_disk::Disk;
+use tf_indexer::Indexer;
 use tf_model::{Entry, List, OutOfMemory, Text};
 use tf_store::{Store, StoreError};
 
@@ -83,7 +85,7 @@ fn make_pass<D: Disk>(
     Ok(())
 }
 
-// Moves a transform until it is idle.
+// Moves a transform until it is idle. Its checkpoint is computed once.
 fn make_moves<D: Disk>(
     alloc: Global,
     store: &mut Store<D>,
@@ -97,8 +99,9 @@ fn make_moves<D: Disk>(
     ensures stops { IfErr result (Stops D.meaning (IsMove moment id.now (reverse (history_of store.old))) store.old (reverse (moved_out moment id.now (reverse (history_of store.old)))) store.new) }
     ensures runs { Runs D.meaning store.old store.new }
 {
+    let mut indexer = Indexer::new();
     'moves: loop {
-        match advance(alloc, store, id, moment) {
+        match advance(alloc, store, &mut indexer, id, moment) {
             Ok(true) => {}
             Ok(false) => return Ok(()),
             Err(error) => return Err(error),
@@ -110,16 +113,19 @@ fn make_moves<D: Disk>(
 fn advance<D: Disk>(
     alloc: Global,
     store: &mut Store<D>,
+    indexer: &mut Indexer,
     id: &Text,
     moment: i64,
 ) -> Result<bool, StoreError>
+    requires at { IsAt (reverse (history_of store.old)) indexer.old }
+    ensures at { OnOk result (IsAt (reverse (history_of store.new)) indexer.new) }
     ensures moved { IfOk result (λ any. IsAdvanced moment any id.now (reverse (history_of store.old)) (reverse (history_of store.new))) }
     ensures broken { OnOk result (broken_at store.new ≡ broken_at store.old) }
     ensures within { OnOk result (Fits store.old store.new) }
     ensures stops { IfErr result (Stops D.meaning (IsMove moment id.now (reverse (history_of store.old))) store.old (reverse (moves moment 1 id.now (reverse (history_of store.old)))) store.new) }
     ensures runs { Runs D.meaning store.old store.new }
 {
-    match next_entry(store.core(), id, moment) {
+    match next_entry(alloc, indexer, store.core(), id, moment) {
         Ok(Some(entry)) => {
             commit_entry(alloc, store, entry)?;
             Ok(true)
@@ -129,13 +135,21 @@ fn advance<D: Disk>(
     }
 }
 
-// The entry of the next move of a transform, none where it has none.
-fn next_entry(core: &Core, id: &Text, moment: i64) -> Result<Option<Entry>, OutOfMemory>
-    requires { AreSpelled core.now.history }
+// The entry of the next move of a transform, none where it has none. The indexer goes on behind it.
+fn next_entry(
+    alloc: Global,
+    indexer: &mut Indexer,
+    core: &Core,
+    id: &Text,
+    moment: i64,
+) -> Result<Option<Entry>, OutOfMemory>
+    requires spelled { AreSpelled core.now.history }
+    requires at { IsAt (reverse core.now.history) indexer.old }
     ensures moved { IfOk result (λ entry. entry ≡ next_move moment id.now (reverse core.now.history)) }
     ensures next { IfOk result (λ entry. IfSome entry (IsNext (reverse core.now.history))) }
+    ensures behind { IfOk result (λ entry. MatchOption entry (IsAt (reverse core.now.history) indexer.new) (λ e. IsAt (e ∷ reverse core.now.history) indexer.new)) }
 {
     core.is_taken();
-    let entry = core.next_entry(id, moment)?;
+    let entry = indexer.next_entry(alloc, core, id, moment)?;
     Ok(entry)
 }

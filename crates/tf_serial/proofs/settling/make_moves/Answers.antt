@@ -13,7 +13,7 @@ use Rattle.tf_serial.proofs.Within.{within_itself, within_through}
 use Rattle.tf_serial.proofs.settling.make_moves.Goals as goal
 
 pub moves-init : goal.moves-init
-moves-init g c = record { broken = refl; within = within_itself (history_of c.args.store.now) (file_len c.args.store.now); so_far = (0, refl); runs = runs_itself g.D.Disk.meaning c.args.store.now }
+moves-init g c = record { at = c.new-indexer.ensures (reverse (history_of c.args.store.now)); broken = refl; within = within_itself (history_of c.args.store.now) (file_len c.args.store.now); so_far = (0, refl); runs = runs_itself g.D.Disk.meaning c.args.store.now }
 
 pub moves-smaller : goal.moves-smaller
 moves-smaller g c =
@@ -32,6 +32,7 @@ moves-preserved g c =
     let now = reverse (history_of c.advance.new.store) in
     let advanced = subst (λ (b : Bool). IsAdvanced given b id past now) c.in-Ok-true.field-0-test c.in-Ok-true.ensures.moved in
     record {
+      at = c.in-Ok-true.ensures.at;
       broken = c.in-Ok-true.ensures.broken ∙ c.moves.invariant.broken;
       within = within_through (history_of c.args.store.now) (history_of c.moves.store) (history_of c.advance.new.store) (file_len c.args.store.now) (file_len c.moves.store) (file_len c.advance.new.store) c.moves.invariant.within c.in-Ok-true.ensures.within;
       so_far = one_more given id (reverse (history_of c.args.store.now)) past c.moves.invariant.so_far now advanced.0 advanced.1 advanced.2;
