@@ -1,4 +1,4 @@
-use Rattle.std.proofs.Common.{◌≡◌, Some, None, Option, sym, ◌∙◌}
+use Rattle.std.proofs.Common.{◌≡◌, Some, Option, sym, ◌∙◌}
 use Rattle.std.specs.Prelude.{reverse, take}
 use Rattle.tf_reply.specs.declared.replies.Reply.{Reply}
 use Rattle.tf_decide.specs.Replying.{reply_alone}

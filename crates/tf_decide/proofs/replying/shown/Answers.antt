@@ -1,7 +1,6 @@
 use Rattle.std.proofs.Common.{Some, subst}
 use Rattle.std.specs.Prelude.{IfSome, reverse}
 use Rattle.tf_core.specs.Held.{life_in}
-use Rattle.tf_core.specs.Legal.{read}
 use Rattle.tf_core.specs.Lookups.{docs_in}
 use Rattle.tf_core.specs.Table.{Tells}
 use Rattle.tf_decide.proofs.Shown.{all_shown, told_shown}
