@@ -5,6 +5,7 @@ use std::alloc::Global;
 use std::test::*;
 use tf_disk::{Disk, MemDisk};
 use tf_journal::{Frame, Journal, JournalError, read_only};
+use tf_model::List;
 
 // Two frames, "abc" and "z", and a closed gate.
 const FILE: &[u8] = b"TFJRNL1\n\x01\x03\0\0\0\0\0\0\0abc\x01\x01\0\0\0\0\0\0\0z\0";
@@ -128,7 +129,7 @@ fn a_damaged_frame_is_told_with_its_number(rt: HostRuntime) -> Result<(), Fail> 
 fn frame(alloc: Global, body: &[u8]) -> Result<Frame, Fail>
     ensures { IfOk result (λ frame. frame ≡ body.now) }
 {
-    let frame = Frame::of_slice(alloc, body)?;
+    let frame = Frame::of(alloc, &List::from_vec(body.to_vec(alloc)?))?;
     Ok(frame)
 }
 
