@@ -4,9 +4,9 @@
     tools/prove.py PROGRAM
 
 `rt` proves one crate of a copy of the repository at a time, since it locks all that the crate stands on. So each processor gets a
-copy of its own (a lane). A crate is begun, in a free lane, as soon as all that it stands on are proved, and it gets the jobs for
-which processors are free, at least two. Those with the most work behind them come first, and the others run at a lower priority, so
-that they do not hold up what the program waits for. `rt` takes the libraries below a crate from the lanes that proved them, as it does
+copy of its own (a lane). A crate is begun, in a free lane, as soon as all that it stands on are proved. Those with the most work
+behind them come first: the first of all gets the jobs for which processors are free, at least two, and the others one each and a
+lower priority, so that they do not hold up what the program waits for. `rt` takes the libraries below a crate from the lanes that proved them, as it does
 among all checkouts of a machine; so does `rt run`, which ends it in the program's own folder.
 """
 import concurrent.futures
@@ -17,8 +17,8 @@ import sys
 import tempfile
 
 PARTS = ("src", "specs", "proofs")
-# How many jobs a crate gets at least: more than one, so that a long one does not hold up those above it on one processor.
-BESIDE = 2
+# How many jobs the crate with the most work behind it gets at least.
+FIRST = 2
 LEAST_PRIORITY = 19
 
 
@@ -42,13 +42,12 @@ def below(name, crates):
 
 
 def lines_of(folder):
-    """Returns how many lines a check of a crate reads."""
+    """Returns how many lines of code a crate has, on which the time of its check hangs most."""
     count = 0
-    for part in PARTS:
-        for at, _, files in os.walk(f"{folder}/{part}"):
-            for file in files:
-                with open(f"{at}/{file}", "rb") as text:
-                    count += text.read().count(b"\n")
+    for at, _, files in os.walk(f"{folder}/src"):
+        for file in files:
+            with open(f"{at}/{file}", "rb") as text:
+                count += text.read().count(b"\n")
     return count
 
 
@@ -104,10 +103,10 @@ def prove_all(crates, weights, lanes):
         while waiting or running:
             ready = [it for it in waiting if proved.issuperset(crates[it])]
             beside = len(ready) + len(running) - 1
-            jobs = max(BESIDE, len(lanes) - beside)
             most = max(weights[it] for it in ready + [name for name, _ in running.values()])
             for name in ready[: len(free)]:
                 waiting.remove(name)
+                jobs = max(FIRST, len(lanes) - beside) if weights[name] == most else 1
                 lane, niceness = free.pop(), round(LEAST_PRIORITY * (1 - weights[name] / most))
                 tell(f"proving {name} ({len(waiting) + 1} left)")
                 running[pool.submit(call, f"{lane}/crates/{name}", niceness, "lib", "--jobs", str(jobs))] = name, lane

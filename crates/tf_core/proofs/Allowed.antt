@@ -23,12 +23,15 @@ use Rattle.tf_core.proofs.BuiltPast.{built_past}
 use Rattle.tf_core.proofs.Fields.{ascending_is, is_ascending}
 
 -- ---- moments
+pub in_span : (last_ms at_ms : ℤ) (actor : ℕ) → is_timely last_ms at_ms actor ≡ true → IsSpan at_ms
+in_span last_ms at_ms actor e = let a = both _ _ e in let b = both _ _ a.1 in (int_at_most _ _ a.0, int_at_most _ _ b.0)
+
 pub timely : (past : List Entry) (at_ms : ℤ) (actor : ℕ) → is_timely (last_ms_in past) at_ms actor ≡ true → IsSpan at_ms × IsNotBefore at_ms (read past) × (actor ≤ 15)
 timely past at_ms actor e =
     let a = both _ _ e in
     let b = both _ _ a.1 in
     let c = both _ _ b.1 in
-    ((int_at_most _ _ a.0, int_at_most _ _ b.0), later past c.0, nat_at_most _ _ c.1)
+    (in_span (last_ms_in past) at_ms actor e, later past c.0, nat_at_most _ _ c.1)
   where
     later : (past : List Entry) → int_le (last_ms_in past) at_ms ≡ true → IsNotBefore at_ms (read past)
     later [] e = tt

@@ -1,10 +1,9 @@
 -- The tests together say which entries are taken.
 use Rattle.std.proofs.Common.{◌≡◌, ℕ, ◌<◌, Bool, true, false, ◌&&◌, List, length, map, Option, Some, None, refl, sym, ap, subst, ◌∙◌, arith}
-use Rattle.std.specs.Prelude.{ℤ, ◌↔◌, slice_get, IsSomeAnd, is_none, reverse, option_map}
+use Rattle.std.specs.Prelude.{ℤ, ◌↔◌, slice_get, IsSomeAnd, reverse, option_map}
 use Rattle.std.specs.List.{AllByRecursion, list_all}
 use Rattle.std.specs.Ordering.{eq_by_cmp, int_eq}
 use Rattle.std.specs.Str.{bytes_eq}
-use Rattle.std.proofs.lemmas.Int.{ints}
 use Rattle.std.proofs.lemmas.Slice.Eq.{bytes_eq-Decides}
 use Rattle.std.specs.Cmp.Derive.{both_true}
 use Rattle.std.proofs.lemmas.Option.{same_Some}
@@ -17,6 +16,7 @@ use Rattle.tf_model.specs.declared.entry.SumRange.{SumRange}
 use Rattle.tf_model.specs.declared.value.Key.{Key}
 use Rattle.tf_model.specs.Conditions.{AllFit, IsInRange}
 use Rattle.tf_model.specs.Order.{key_cmp}
+use Rattle.tf_model.specs.Scratch.{is_pivot}
 use Rattle.tf_model.proofs.OrderLaws.{key_ties}
 use Rattle.tf_history.specs.Catalogue.{SourceIndex, catalogue}
 use Rattle.tf_history.specs.Legality.{IsAllowed, IsRunning, MayBegin, MayFail, MayFinish, MayPage, is_active, sum_now, told}
@@ -39,21 +39,17 @@ use Rattle.tf_mapping.specs.Documents.{values_of}
 use Rattle.tf_core.proofs.Allowed.{built, timely, is_timely_for, index_may, may_index}
 use Rattle.tf_core.proofs.AllowedDocs.{document_may, may_document}
 use Rattle.tf_core.proofs.AllowedRows.{page_may, may_page_now, finish_may, running_may, rows_are, are_rows, running_of}
-use Rattle.tf_core.proofs.AllowedTransforms.{life_passes, passes_life, start_is, stop_is, begin_may, may_begin_now, transform_may, may_transform, put_is, form_is}
+use Rattle.tf_core.proofs.AllowedTransforms.{life_passes, passes_life, start_is, stop_is, begin_may, may_begin_now, transform_may, may_transform, put_is, form_is, is_pivot_there}
 use Rattle.tf_core.proofs.BuiltPast.{all_weaken}
-use Rattle.tf_core.proofs.FirstCheckpoint.{failing_is, failure_is, key_of, left_is}
-use Rattle.tf_core.proofs.Fitting.{form_of, put_in_range, reads_fit, reads_have}
+use Rattle.tf_core.proofs.NewestCheckpoint.{failing_is, failure_is, key_of, left_is}
+use Rattle.tf_core.proofs.Fitting.{put_in_range, reads_fit, reads_have}
 use Rattle.tf_core.proofs.LastMoment.{last_is_newest}
-use Rattle.tf_core.proofs.Truths.{both, no_items, same_int}
+use Rattle.tf_core.proofs.Truths.{both, int_same, no_items, same_int}
 use Rattle.tf_core.specs.Held.{last_ms_of}
 use Rattle.tf_core.specs.Moves.{last_ms_in}
 
-int_same : (a b : ℤ) → a ≡ b → int_eq a b ≡ true
-int_same a b e = grind (arith, ints)
-
--- ---- a finish and a fail of the one checkpoint
-module _ (past : List Entry) (indices : List SourceIndex) (docs : List Doc) (ts : List Transform) (s : Stands past indices docs ts) (id : List ℕ) (t : Transform) (l : Life) (there : transform_at id ts ≡ Some t)
-    (is : life id (read past) ≡ Some l) (sum : IsSummary docs t l) where
+-- ---- a finish and a fail of the newest checkpoint
+module _ (docs : List Doc) (t : Transform) (l : Life) (sum : IsSummary docs t l) (pivot : is_pivot t.config.shape ≡ true) where
   begun_some : (n : ℕ) → may_finish t n ≡ true → 0 < length l.checkpoints
   begun_some n e = let r = running_of docs t l sum n e in omega (arith, r.0, r.1)
 
@@ -63,10 +59,10 @@ module _ (past : List Entry) (indices : List SourceIndex) (docs : List Doc) (ts 
   pub finish_ok : (n : ℕ) → (may_finish t n && has_none_left t docs) ≡ true → MayFinish l n
   finish_ok n e =
       let parts = both (may_finish t n) (has_none_left t docs) e in
-      finish_may docs t l sum n parts.0 (left_is past indices docs ts s id t l there is sum (begun_some n parts.0) ∙ no_items (keys_left t docs) parts.1)
+      finish_may docs t l sum n parts.0 (left_is docs t l sum pivot (begun_some n parts.0) ∙ no_items (keys_left t docs) parts.1)
 
   pub ok_finish : (n : ℕ) → MayFinish l n → (may_finish t n && has_none_left t docs) ≡ true
-  ok_finish n m = both_true (running_may docs t l sum n m.running m.active) (ap is_empty (sym (left_is past indices docs ts s id t l there is sum (running_some n m.running)) ∙ m.nothing_left))
+  ok_finish n m = both_true (running_may docs t l sum n m.running m.active) (ap is_empty (sym (left_is docs t l sum pivot (running_some n m.running)) ∙ m.nothing_left))
 
   -- a sum that is told
   told_is : (k : Key) (name : List ℕ) (value : ℤ) (o : Option SumRange) → is_told k name value o ≡ true → (found : SumRange) × (o ≡ Some found) × (found.key ≡ k) × (told found ≡ (name, value))
@@ -89,22 +85,22 @@ module _ (past : List Entry) (indices : List SourceIndex) (docs : List Doc) (ts 
       record {
         running = running_of docs t l sum n parts.0;
         active = ap is_active (sym sum.state) ∙ active.1;
-        first = failing_is past indices docs ts s id t l there is sum some ∙ (ap (option_map key_of) found.1 ∙ ap Some found.2);
+        first = failing_is docs t l sum pivot some ∙ (ap (option_map key_of) found.1 ∙ ap Some found.2);
         tells = ap (λ key. option_map told (sum_now l key)) (sym found.2)
-            ∙ (ap (option_map told) (failure_is past indices docs ts s id t l there is sum some found.0 found.1) ∙ ap Some found.3);
+            ∙ (ap (option_map told) (failure_is docs t l sum pivot some found.0 found.1) ∙ ap Some found.3);
       }
 
   pub ok_fail : (n : ℕ) (k : Key) (name : List ℕ) (value : ℤ) → MayFail l n k name value → (may_finish t n && is_told k name value (failure t docs)) ≡ true
   ok_fail n k name value m =
       let some = running_some n m.running in
       both_true (running_may docs t l sum n m.running m.active)
-      (by (failure t docs) refl (sym (failing_is past indices docs ts s id t l there is sum some) ∙ m.first) m.tells)
+      (by (failure t docs) refl (sym (failing_is docs t l sum pivot some) ∙ m.first) m.tells)
     where
       by : (o : Option SumRange) → failure t docs ≡ o → option_map key_of o ≡ Some k → option_map told (sum_now l k) ≡ Some (name, value) → is_told k name value o ≡ true
       by None fails first tells = absurd (let z : ◌≡◌ {A = Option Key} None (Some k) = first in cc)
       by (Some found) fails first tells =
           let key : found.key ≡ k = same_Some found.key k first in
-          let now : sum_now l k ≡ Some found = ap (sum_now l) (sym key) ∙ failure_is past indices docs ts s id t l there is sum (running_some n m.running) found fails in
+          let now : sum_now l k ≡ Some found = ap (sum_now l) (sym key) ∙ failure_is docs t l sum pivot (running_some n m.running) found fails in
           is_told_so k name value found key (same_Some (told found) (name, value) (sym (ap (option_map told) now) ∙ tells))
 
 -- ---- each kind
@@ -123,8 +119,12 @@ module _ (past : List Entry) (indices : List SourceIndex) (docs : List Doc) (ts 
       → IsSomeAnd (life id (read past)) P → test_at test (transform_at id ts) ≡ true
   to_test id test P f p = passes_life docs (transform_at id ts) (life id (read past)) test P (s.lives id) f p
 
-  batch_of : (id : List ℕ) (t : Transform) → transform_at id ts ≡ Some t → is_none t.config.sync ≡ true
-  batch_of id t there = ap is_none (form_of t.config (form_is past indices docs ts s id t there).form).batch
+  -- what is said of all documents written is said of those that are kept
+  at_docs : (P : List Doc → Type 0) → P docs → P (documents (read past))
+  at_docs P known = subst P (sym s.docs_are) known
+
+  of_docs : (P : List Doc → Type 0) → P (documents (read past)) → P docs
+  of_docs P known = subst P s.docs_are known
 
   -- the rows of a page, by the transform that was put
   abbrev RowsFit : List ℕ → List Row → Type 0
@@ -151,7 +151,7 @@ module _ (past : List Entry) (indices : List SourceIndex) (docs : List Doc) (ts 
       let here : IsSomeAnd (option_map put_of (Some t)) (λ (p : PutTransform). IsSomeAnd (Some l) (λ l. AllByRecursion (IsRowOf p.config.shape (read_last l.checkpoints)) rows))
       = subst (λ o. IsSomeAnd (option_map put_of (Some t)) (λ (p : PutTransform). IsSomeAnd o (λ l. AllByRecursion (IsRowOf p.config.shape (read_last l.checkpoints)) rows))) is
       (subst (λ o. IsSomeAnd o (λ (p : PutTransform). IsSomeAnd (life id (read past)) (λ l. AllByRecursion (IsRowOf p.config.shape (read_last l.checkpoints)) rows))) (put_is past indices docs ts s id ∙ ap (option_map put_of) there) fit) in
-      may_page_now docs t l sum n rows m (are_rows t.config.shape (read_last l.checkpoints) rows (form_of t.config (form_is past indices docs ts s id t there).form).pivot here))
+      may_page_now docs t l sum n rows m (are_rows t.config.shape (read_last l.checkpoints) rows (is_pivot_there past indices docs ts s id t there) here))
       may
 
   pub passes : (k : Kind) → may_do indices docs ts moment k ≡ true → Passes k
@@ -169,13 +169,14 @@ module _ (past : List Entry) (indices : List SourceIndex) (docs : List Doc) (ts 
   passes (kind.Stopped id) e = record { fits = tt; allowed = from_test id may_stop (λ l. legality.may_stop l.state l ≡ true) (λ t l there is sum pass. sym (stop_is docs t l sum) ∙ pass) e; built_form = refl }
   passes (kind.Begin id n bound) e = record {
     fits = tt;
-    allowed = from_test id (λ t. may_begin t n bound) (λ l. MayBegin l (documents (read past)) n bound moment) (λ t l there is sum pass. begin_may docs t l sum (documents (read past)) n bound moment (batch_of id t there) pass) e;
+    allowed = from_test id (λ t. may_begin t docs n bound moment) (λ l. MayBegin l (documents (read past)) n bound moment)
+        (λ t l there is sum pass. at_docs (λ ds. MayBegin l ds n bound moment) (begin_may docs t l sum n bound moment pass)) e;
     built_form = refl;
   }
   passes (kind.Page id n rows) e = let p = page_from id n rows e in record { fits = p.0; allowed = p.1; built_form = refl }
   passes (kind.Finish id n) e = record {
     fits = tt;
-    allowed = from_test id (λ t. may_finish t n && has_none_left t docs) (λ l. MayFinish l n) (λ t l there is sum pass. finish_ok past indices docs ts s id t l there is sum n pass) e;
+    allowed = from_test id (λ t. may_finish t n && has_none_left t docs) (λ l. MayFinish l n) (λ t l there is sum pass. finish_ok docs t l sum (is_pivot_there past indices docs ts s id t there) n pass) e;
     built_form = refl;
   }
   passes (kind.Delete id) e = absurd (let z : false ≡ true = e in cc)
@@ -185,7 +186,7 @@ module _ (past : List Entry) (indices : List SourceIndex) (docs : List Doc) (ts 
   passes (kind.Fail id n key name value) e = record {
     fits = tt;
     allowed = from_test id (λ t. may_finish t n && is_told key name value (failure t docs)) (λ l. MayFail l n key name value)
-        (λ t l there is sum pass. fail_ok past indices docs ts s id t l there is sum n key name value pass) e;
+        (λ t l there is sum pass. fail_ok docs t l sum (is_pivot_there past indices docs ts s id t there) n key name value pass) e;
     built_form = refl;
   }
 
@@ -199,15 +200,16 @@ module _ (past : List Entry) (indices : List SourceIndex) (docs : List Doc) (ts 
   does (kind.Start id) p = to_test id may_start (λ l. legality.may_start l ≡ true) (λ t l there is sum m. start_is docs t l sum ∙ m) p.allowed
   does (kind.Stopped id) p = to_test id may_stop (λ l. legality.may_stop l.state l ≡ true) (λ t l there is sum m. stop_is docs t l sum ∙ m) p.allowed
   does (kind.Begin id n bound) p =
-      to_test id (λ t. may_begin t n bound) (λ l. MayBegin l (documents (read past)) n bound moment) (λ t l there is sum m. may_begin_now docs t l sum (documents (read past)) n bound moment (batch_of id t there) m) p.allowed
+      to_test id (λ t. may_begin t docs n bound moment) (λ l. MayBegin l (documents (read past)) n bound moment)
+      (λ t l there is sum m. may_begin_now docs t l sum n bound moment (of_docs (λ ds. MayBegin l ds n bound moment) m)) p.allowed
   does (kind.Page id n rows) p = page_to id n rows p.fits p.allowed
-  does (kind.Finish id n) p = to_test id (λ t. may_finish t n && has_none_left t docs) (λ l. MayFinish l n) (λ t l there is sum m. ok_finish past indices docs ts s id t l there is sum n m) p.allowed
+  does (kind.Finish id n) p = to_test id (λ t. may_finish t n && has_none_left t docs) (λ l. MayFinish l n) (λ t l there is sum m. ok_finish docs t l sum (is_pivot_there past indices docs ts s id t there) n m) p.allowed
   does (kind.Delete id) p = absurd (let z : false ≡ true = p.built_form in cc)
   does (kind.Reset id) p = absurd (let z : false ≡ true = p.built_form in cc)
   does (kind.StopAsked id wait) p = absurd (let z : false ≡ true = p.built_form in cc)
   does (kind.Schedule id) p = absurd (let z : false ≡ true = p.built_form in cc)
   does (kind.Fail id n key name value) p =
-      to_test id (λ t. may_finish t n && is_told key name value (failure t docs)) (λ l. MayFail l n key name value) (λ t l there is sum m. ok_fail past indices docs ts s id t l there is sum n key name value m) p.allowed
+      to_test id (λ t. may_finish t n && is_told key name value (failure t docs)) (λ l. MayFail l n key name value) (λ t l there is sum m. ok_fail docs t l sum (is_pivot_there past indices docs ts s id t there) n key name value m) p.allowed
 
   pub taken_is : (e : Entry) → e.at_ms ≡ moment → (is_timely (last_ms_in past) e.at_ms e.actor && may_do indices docs ts e.at_ms e.kind) ≡ true → IsTaken past e
   unfolding reading

@@ -1,5 +1,5 @@
 -- What may be done to a transform.
-use Rattle.std.proofs.Common.{◌≡◌, ℕ, ◌<◌, Bool, true, false, ◌&&◌, not, List, [], ◌∷◌, length, map, Option, Some, None, refl, sym, ap, subst, ◌∙◌, arith, ltb-true, lt-ltb}
+use Rattle.std.proofs.Common.{◌≡◌, ℕ, ◌+◌, ◌<◌, Bool, true, false, ◌&&◌, not, List, [], ◌∷◌, length, map, Option, Some, None, refl, sym, ap, subst, ◌∙◌, ltb-true, lt-ltb}
 use Rattle.std.specs.Prelude.{ℤ, ◌||◌, nat_lt, IsSomeAnd, is_none, if◌then◌else◌, option_map}
 use Rattle.std.specs.List.{AllByRecursion, find}
 use Rattle.std.specs.Cmp.Derive.{both_true}
@@ -10,16 +10,16 @@ use Rattle.tf_model.specs.declared.doc.Doc.{Doc}
 use Rattle.tf_model.specs.declared.entry.Entry.{Entry}
 use Rattle.tf_model.specs.declared.task.State.{State}
 use Rattle.tf_model.specs.declared.task.State.TheVariants as state
-use Rattle.tf_model.specs.Bounds.{risen}
+use Rattle.tf_model.specs.Scratch.{is_pivot}
 use Rattle.tf_history.specs.Catalogue.{SourceIndex, catalogue}
 use Rattle.tf_history.specs.Legality as legality
 use Rattle.tf_history.specs.Legality.{MayBegin, is_started, is_stopped}
 use Rattle.tf_history.specs.LegalEntries.{MayPut}
-use Rattle.tf_history.specs.Lives.{Life, Checkpoint, life, is_same, last_bound}
+use Rattle.tf_history.specs.Lives.{Life, life, is_same}
 use Rattle.tf_history.specs.Transforms.{PutTransform, transforms, transform_of}
 use Rattle.tf_core.specs.declared.transform.Transform.{Transform}
 use Rattle.tf_config.specs.Refusals.{passes}
-use Rattle.tf_core.specs.Allowing.{has_names, takes_transform, is_over, may_start, may_stop, may_stop_in, may_begin, test_at}
+use Rattle.tf_core.specs.Allowing.{bound_at, has_names, is_same_bound, takes_transform, is_over, may_start, may_stop, may_stop_in, may_begin, test_at}
 use Rattle.tf_core.specs.Built.{is_built_config}
 use Rattle.tf_core.specs.BuiltPast.{IsBuiltPut}
 use Rattle.tf_core.specs.Legal.{reading, read}
@@ -28,7 +28,9 @@ use Rattle.tf_core.specs.Sources.{catalogued}
 use Rattle.tf_core.specs.Summary.{IsSummary, put_of}
 use Rattle.tf_core.specs.Table.{Tells, transform_at}
 use Rattle.tf_core.proofs.Allowed.{built, free_is}
-use Rattle.tf_core.proofs.Truths.{both, none_of, nat_same, same_nat}
+use Rattle.tf_core.proofs.Due.{bound_at_is, due_is}
+use Rattle.tf_core.proofs.Fitting.{form_of}
+use Rattle.tf_core.proofs.Truths.{both, int_same, none_of, nat_same, same_int, same_nat}
 
 -- ---- lives and transforms
 pub no_life : (docs : List Doc) (l : Option Life) → Tells docs None l → l ≡ None
@@ -78,51 +80,38 @@ module _ (docs : List Doc) (t : Transform) (l : Life) (s : IsSummary docs t l) w
   started_is state.Stopping e = absurd (let z : false ≡ true = e in cc)
   started_is state.Failed e = absurd (let z : false ≡ true = e in cc)
 
-  none_begun : (cs : List Checkpoint) → length cs ≡ 0 → cs ≡ []
-  none_begun [] e = refl
-  none_begun (c ∷ cs) e = absurd (omega arith)
+  same_bound : (a b : Option ℤ) → is_same_bound a b ≡ true → a ≡ b
+  same_bound None None e = refl
+  same_bound None (Some y) e = absurd (let z : false ≡ true = e in cc)
+  same_bound (Some x) None e = absurd (let z : false ≡ true = e in cc)
+  same_bound (Some x) (Some y) e = ap Some (same_int x y e)
 
-  batch_due : (cs : List Checkpoint) (batch other : Bool) → batch ≡ true → (legality.is_empty cs || (not batch && other)) ≡ true → cs ≡ []
-  batch_due [] batch other b e = refl
-  batch_due (c ∷ cs) true other b e = absurd (let z : false ≡ true = e in cc)
-  batch_due (c ∷ cs) false other b e = absurd (let z : false ≡ true = b in cc)
+  bound_same : (a b : Option ℤ) → a ≡ b → is_same_bound a b ≡ true
+  bound_same a b e = subst (λ o. is_same_bound a o ≡ true) e (itself a)
+    where
+      itself : (o : Option ℤ) → is_same_bound o o ≡ true
+      itself None = refl
+      itself (Some x) = int_same x x refl
 
-  no_bound : (b : Bool) (bound : Option ℤ) → b ≡ true → (if b then None else bound) ≡ None
-  no_bound true bound e = refl
-  no_bound false bound e = absurd (let z : false ≡ true = e in cc)
-
-  none_is : {X : Type 0} (o : Option X) → o ≡ None → is_none o ≡ true
-  none_is o e = ap is_none e
-
-  module _ (all : List Doc) (n : ℕ) (bound : Option ℤ) (moment : ℤ) (batch : is_none t.config.sync ≡ true) where
-    is_batch : l.meaning.is_batch ≡ true
-    is_batch = batch_is ∙ batch
-
-    pub begin_may : may_begin t n bound ≡ true → MayBegin l all n bound moment
+  module _ (n : ℕ) (bound : Option ℤ) (moment : ℤ) where
+    pub begin_may : may_begin t docs n bound moment ≡ true → MayBegin l docs n bound moment
     begin_may e =
         let a = both _ _ e in
         let b = both _ _ a.1 in
         let c = both _ _ b.1 in
         let d = both _ _ c.1 in
-        let begun : t.begun ≡ 0 = same_nat _ _ b.0 in
-        let finished : t.finished ≡ 0 = same_nat _ _ c.0 in
-        let none : l.checkpoints ≡ [] = none_begun l.checkpoints (sym s.begun ∙ begun) in
         record {
           started = sym s.state ∙ started_is t.state a.0;
-          idle = sym s.finished ∙ (finished ∙ (sym begun ∙ s.begun));
-          due = ap (λ cs. legality.is_empty cs || (not l.meaning.is_batch && (legality.has_window l all moment && legality.is_time l.meaning cs l.prompted moment))) none;
-          number = let one : n ≡ 1 = same_nat _ _ d.0 in let zero_done : l.finished ≡ 0 = sym s.finished ∙ finished in omega arith;
-          bound_is = none_of bound d.1 ∙ sym (no_bound l.meaning.is_batch (Some (risen (last_bound l.checkpoints) (l.meaning.aligned moment))) is_batch);
+          idle = sym s.finished ∙ (sym (same_nat _ _ b.0) ∙ s.begun);
+          due = sym (due_is docs t l s moment) ∙ d.1;
+          number = same_nat _ _ c.0 ∙ ap (λ m. m + 1) s.finished;
+          bound_is = same_bound bound (bound_at t moment) d.0 ∙ bound_at_is docs t l s moment;
         }
 
-    pub may_begin_now : MayBegin l all n bound moment → may_begin t n bound ≡ true
+    pub may_begin_now : MayBegin l docs n bound moment → may_begin t docs n bound moment ≡ true
     may_begin_now m =
-        let none : l.checkpoints ≡ [] = batch_due l.checkpoints l.meaning.is_batch (legality.has_window l all moment && legality.is_time l.meaning l.checkpoints l.prompted moment) is_batch m.due in
-        let begun : t.begun ≡ 0 = s.begun ∙ ap length none in
-        let finished : t.finished ≡ 0 = s.finished ∙ (m.idle ∙ ap length none) in
-        let one : n ≡ 1 = let number = m.number in let done = s.finished in omega arith in
-        both_true (ap is_started (s.state ∙ m.started)) (both_true (nat_same _ _ begun) (both_true (nat_same _ _ finished) (both_true (nat_same _ _ one)
-        (none_is bound (m.bound_is ∙ no_bound l.meaning.is_batch (Some (risen (last_bound l.checkpoints) (l.meaning.aligned moment))) is_batch)))))
+        both_true (ap is_started (s.state ∙ m.started)) (both_true (nat_same _ _ (s.begun ∙ (sym m.idle ∙ sym s.finished))) (both_true (nat_same _ _ (m.number ∙ ap (λ k. k + 1) (sym s.finished)))
+        (both_true (bound_same bound (bound_at t moment) (m.bound_is ∙ sym (bound_at_is docs t l s moment))) (due_is docs t l s moment ∙ m.due))))
 
 -- ---- putting
 module _ (past : List Entry) (indices : List SourceIndex) (docs : List Doc) (ts : List Transform) (s : Stands past indices docs ts) where
@@ -186,9 +175,12 @@ module _ (past : List Entry) (indices : List SourceIndex) (docs : List Doc) (ts 
       by true same f rest = subst (λ v. P (put_of v)) (same_Some u t f) all.0
       by false same f rest = rest f
 
-  -- a transform that is there is a batch pivot over indices that are there
+  -- a transform that is there is a pivot over indices that are there
   pub form_is : (id : List ℕ) (t : Transform) → transform_at id ts ≡ Some t → IsBuiltPut indices (put_of t)
   form_is id t e = all_found (IsBuiltPut indices) id t ts (built past indices docs ts s).each_put e
+
+  pub is_pivot_there : (id : List ℕ) (t : Transform) → transform_at id ts ≡ Some t → is_pivot t.config.shape ≡ true
+  is_pivot_there id t e = (form_of t.config (form_is id t e).form).pivot
 
   -- what is known of each transform as it was put
   pub known_of : (P : PutTransform → Type 0) (id : List ℕ) (t : Transform) → transform_at id ts ≡ Some t → AllByRecursion P (transforms past) → P (put_of t)

@@ -1,4 +1,4 @@
--- A past whose entries were taken has indices, their documents, and batch pivots that pass their checks over these.
+-- A past whose entries were taken has indices, their documents, and pivots that pass their checks over these.
 use Rattle.std.proofs.Common.{◌≡◌, ℕ, zero, suc, ◌<◌, Bool, true, false, List, [], ◌∷◌, ◌++◌, length, length-append, append-nil, Option, Some, None, refl, sym, ap, subst, ◌∙◌, arith}
 use Rattle.std.specs.Prelude.{ℤ, slice_get, IsSomeAnd, IfSome, if◌then◌else◌, is_some, option_map}
 use Rattle.std.specs.List.{AllByRecursion, list_any, cons_option}

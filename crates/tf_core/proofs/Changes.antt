@@ -35,6 +35,7 @@ more_docs docs more t l h = record {
   waits = h.waits;
   prompted = h.prompted;
   begun = h.begun;
+  low = h.low;
   bound = h.bound;
   moment = h.moment;
   within = omega (arith, h.within, length-append docs more);
@@ -94,6 +95,7 @@ module _ (docs : List Doc) (t : Transform) (l : Life) (h : IsSummary docs t l) (
     waits = waits;
     prompted = prompted;
     begun = h.begun;
+    low = h.low;
     bound = h.bound;
     moment = h.moment;
     within = h.within;
@@ -118,6 +120,7 @@ module _ (docs : List Doc) (t : Transform) (l : Life) (h : IsSummary docs t l) (
     waits = h.waits;
     prompted = refl;
     begun = m.number ∙ (add-one l.finished ∙ ap suc m.idle);
+    low = h.bound;
     bound = refl;
     moment = refl;
     within = omega arith;
@@ -142,6 +145,7 @@ module _ (docs : List Doc) (t : Transform) (l : Life) (h : IsSummary docs t l) (
     waits = h.waits;
     prompted = h.prompted;
     begun = h.begun;
+    low = h.low;
     bound = h.bound;
     moment = h.moment;
     within = h.within;
@@ -165,6 +169,7 @@ module _ (docs : List Doc) (t : Transform) (l : Life) (h : IsSummary docs t l) (
     waits = h.waits;
     prompted = h.prompted;
     begun = h.begun;
+    low = h.low;
     bound = h.bound;
     moment = h.moment;
     within = h.within;
@@ -188,6 +193,7 @@ module _ (docs : List Doc) (t : Transform) (l : Life) (h : IsSummary docs t l) (
     waits = refl;
     prompted = refl;
     begun = refl;
+    low = refl;
     bound = refl;
     moment = refl;
     within = omega arith;

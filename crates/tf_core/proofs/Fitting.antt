@@ -1,5 +1,5 @@
 -- The documents of a transform fit its configuration, and what is known of their values.
-use Rattle.std.proofs.Common.{◌≡◌, ℕ, zero, suc, Bool, true, false, ◌&&◌, List, [], ◌∷◌, filter, take, Option, Some, None, refl, sym, ap, subst, ◌∙◌}
+use Rattle.std.proofs.Common.{◌≡◌, ℕ, zero, suc, Bool, true, false, List, [], ◌∷◌, filter, take, Option, Some, None, refl, sym, ap, subst, ◌∙◌}
 use Rattle.std.specs.Prelude.{ℤ, ◌||◌, nat_eq, slice_get, if◌then◌else◌, IsSomeAnd, is_none, option_map}
 use Rattle.std.specs.List.{AllByRecursion, list_any, cons_option}
 use Rattle.std.specs.Str.{bytes_eq}
@@ -40,14 +40,12 @@ all_take P (suc n) (d ∷ docs) all = (all.0, all_take P n docs all.1)
 -- ---- the form of a configuration
 pub record IsForm (c : Config) : Type 0 where
   pub pivot : is_pivot c.shape ≡ true
-  pub batch : c.sync ≡ None
   pub forever : c.retention ≡ None
 
 pub form_of : (c : Config) → is_built_config c ≡ true → IsForm c
 form_of c e =
-    let a = both (is_pivot c.shape) (is_none c.sync && is_none c.retention) e in
-    let b = both (is_none c.sync) (is_none c.retention) a.1 in
-    record { pivot = a.0; batch = none_of c.sync b.0; forever = none_of c.retention b.1 }
+    let parts = both (is_pivot c.shape) (is_none c.retention) e in
+    record { pivot = parts.0; forever = none_of c.retention parts.1 }
 
 pub put_in_range : (indices : List SourceIndex) (p : PutTransform) → IsBuiltPut indices p → IsInRange p.config
 put_in_range indices p b = passing_is_in_range (catalogued indices) p.config b.checked

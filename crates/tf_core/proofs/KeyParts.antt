@@ -178,10 +178,10 @@ module _ (P : List ℕ → Type 0) (c : Config) (pivot : is_pivot c.shape ≡ tr
   doc_keys [] all = tt
   doc_keys (d ∷ docs) all = all_joined (IsKeyBy P c) (keys_of c d) (flat_map (keys_of c) docs) (key_is P c d pivot range all.0) (doc_keys docs all.1)
 
-  -- the changed keys of a first checkpoint
-  pub changed_keys : (bound : Option ℤ) (position : Option Key) (docs : List Doc) → AllByRecursion (IsDocOf P c) docs → AllByRecursion (IsKeyBy P c) (changed_above c None bound position docs)
+  -- the changed keys of a checkpoint
+  pub changed_keys : (low bound : Option ℤ) (position : Option Key) (docs : List Doc) → AllByRecursion (IsDocOf P c) docs → AllByRecursion (IsKeyBy P c) (changed_above c low bound position docs)
   unfolding changed_above changed all_keys window
-  changed_keys bound position docs all =
-      all_kept (IsKeyBy P c) (is_after position) (changed c None bound docs)
-      (all_folded (IsKeyBy P c) (flat_map (keys_of c) (window c None bound docs)) []
-      (doc_keys (window c None bound docs) (all_kept (IsDocOf P c) (λ d. is_in_window c None bound d) docs all)) tt)
+  changed_keys low bound position docs all =
+      all_kept (IsKeyBy P c) (is_after position) (changed c low bound docs)
+      (all_folded (IsKeyBy P c) (flat_map (keys_of c) (window c low bound docs)) []
+      (doc_keys (window c low bound docs) (all_kept (IsDocOf P c) (λ d. is_in_window c low bound d) docs all)) tt)

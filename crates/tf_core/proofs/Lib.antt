@@ -8,6 +8,8 @@ pub mod Set
 pub mod Tables
 pub mod Taken
 pub mod Changes
+pub mod Begun
+pub mod Due
 pub mod Allowed
 pub mod AllowedDocs
 pub mod StandsMore
@@ -31,7 +33,7 @@ pub mod Fitting
 pub mod InRange
 pub mod DatesRead
 pub mod HistoryLaws
-pub mod FirstCheckpoint
+pub mod NewestCheckpoint
 pub mod AllowedKinds
 pub mod Used
 pub mod NextMove

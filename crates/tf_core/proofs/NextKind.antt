@@ -1,6 +1,6 @@
 -- What the next move does, as an entry's kind, and that its entry is taken.
-use Rattle.std.proofs.Common.{◌≡◌, ℕ, zero, suc, ◌+◌, ◌<◌, ◌≤◌, ◌^◌, Bool, true, false, ◌&&◌, List, [], ◌∷◌, length, length-take, map, take, Option, Some, None, refl, sym, ap, subst, ◌∙◌, arith, ltb-true}
-use Rattle.std.specs.Prelude.{ℤ, pos, ◌≤ℤ◌, int_le, nat_lt, nat_eq, IsSomeAnd, IfSome, if◌then◌else◌, option_map, option_and_then}
+use Rattle.std.proofs.Common.{◌≡◌, ℕ, zero, suc, ◌+◌, ◌<◌, ◌≤◌, ◌^◌, Bool, true, false, ◌&&◌, not, List, [], ◌∷◌, length, length-take, map, take, Option, Some, None, refl, sym, ap, subst, ◌∙◌, arith, ltb-true}
+use Rattle.std.specs.Prelude.{ℤ, pos, ◌≤ℤ◌, int_le, nat_lt, IsSomeAnd, IfSome, if◌then◌else◌, option_map, option_and_then}
 use Rattle.std.specs.List.{AllByRecursion}
 use Rattle.std.proofs.lemmas.Int.{ints}
 use Rattle.std.proofs.lemmas.List.{length-map}
@@ -20,9 +20,9 @@ use Rattle.tf_model.proofs.RangeLaws.{range_key}
 use Rattle.tf_history.specs.Catalogue.{SourceIndex, catalogue}
 use Rattle.tf_history.specs.Events.{Deed}
 use Rattle.tf_history.specs.Events.Deed.{Stopped, Fail, Begin, Page, Finish}
-use Rattle.tf_history.specs.Legality.{IsAllowed, IsNotBefore, MayBegin, MayFail, MayFinish, MayPage, begin_move, is_active, is_started, next_move}
+use Rattle.tf_history.specs.Legality.{IsAllowed, IsNotBefore, MayFail, MayFinish, MayPage, is_active, is_started, next_move}
 use Rattle.tf_history.specs.LegalEntries.{FitsKind, IsRowOf}
-use Rattle.tf_history.specs.Lives.{Life, documents, last_bound, life, next_bound, read_last}
+use Rattle.tf_history.specs.Lives.{Life, life, read_last}
 use Rattle.tf_history.specs.Reading as history
 use Rattle.tf_history.specs.Transforms.{PutTransform, transform_of}
 use Rattle.tf_history.proofs.MovesLaw.{moves_are_legal}
@@ -31,10 +31,10 @@ use Rattle.tf_core.specs.declared.moving.Next.TheVariants as turn
 use Rattle.tf_core.specs.declared.paging.NextPage.{NextPage}
 use Rattle.tf_core.specs.declared.paging.NextPage.TheVariants as page
 use Rattle.tf_core.specs.declared.transform.Transform.{Transform}
-use Rattle.tf_core.specs.Allowing.{first_wide, keys_left, keys_next, may_stop, read_by, wide_sum_at}
+use Rattle.tf_core.specs.Allowing.{bound_at, first_wide, is_due, keys_left, keys_next, may_stop, read_by, wide_sum_at}
 use Rattle.tf_core.specs.Built.{is_built}
 use Rattle.tf_core.specs.Legal.{IsTaken, IsTakenPast, read, reading}
-use Rattle.tf_core.specs.Moves.{IsNextPage, IsPage, clamped, kind_by, kind_of, last_ms_in, moment_after, moved, what_next}
+use Rattle.tf_core.specs.Moves.{IsNextPage, IsPage, clamped, is_moved_on, kind_by, kind_of, last_ms_in, moment_after, moved, what_next}
 use Rattle.tf_core.specs.Sources.{is_among}
 use Rattle.tf_core.specs.Standing.{Stands}
 use Rattle.tf_core.specs.Summary.{IsSummary, put_of}
@@ -42,41 +42,28 @@ use Rattle.tf_core.specs.Table.{Tells, transform_at}
 use Rattle.tf_core.specs.Texts.{HasTexts, HasValues, IsRowFor, IsShort, IsShortConfig, IsShortKind}
 use Rattle.tf_mapping.specs.Documents.{values_of}
 use Rattle.tf_core.proofs.AllowedKinds.{config_in_range, docs_fit, docs_have}
-use Rattle.tf_core.proofs.AllowedTransforms.{form_is, put_is}
-use Rattle.tf_core.proofs.FirstCheckpoint.{first_is, read_is_legal, unbounded}
-use Rattle.tf_core.proofs.Fitting.{form_of}
+use Rattle.tf_core.proofs.AllowedTransforms.{is_pivot_there, put_is}
+use Rattle.tf_core.proofs.NewestCheckpoint.{first_is}
 use Rattle.tf_core.proofs.KeyParts.{IsDocOf, IsKeyBy, all_kept, changed_keys}
-use Rattle.tf_core.proofs.NextMove.{deed_by, deed_of, is_batch, move_is, page_next}
+use Rattle.tf_core.proofs.NextMove.{deed_by, deed_of, move_is, page_next}
 use Rattle.tf_core.proofs.PageRows.{rows_are, rows_of_shape, short_rows, sum_is_told}
 use Rattle.tf_core.proofs.Sums.{few_filter}
-use Rattle.tf_core.proofs.Truths.{both, int_at_most, same_nat}
+use Rattle.tf_core.proofs.Taken.{read_is_legal}
+use Rattle.tf_core.proofs.Truths.{both, int_at_most}
 
 -- ---- the tests behind a choice
-abbrev choice : Bool → Bool → Bool → Next
-choice stop begin index = if stop then turn.Stopped else if begin then turn.Begin else if index then turn.Page else turn.Nothing
+abbrev choice : Bool → Bool → Bool → ℕ → Option ℤ → Next
+choice stop begin index n bound = if stop then turn.Stopped else if begin then turn.Begin n bound else if index then turn.Page else turn.Nothing
 
-begins : (stop begin index : Bool) → choice stop begin index ≡ turn.Begin → begin ≡ true
-begins true begin index e = absurd (let z : turn.Stopped ≡ turn.Begin = e in cc)
-begins false true index e = refl
-begins false false true e = absurd (let z : turn.Page ≡ turn.Begin = e in cc)
-begins false false false e = absurd (let z : turn.Nothing ≡ turn.Begin = e in cc)
+moves_on : (stop begin index : Bool) (n : ℕ) (bound : Option ℤ) → choice stop begin index n bound ≡ turn.Page → (not stop && index) ≡ true
+moves_on true begin index n bound e = absurd (let z : turn.Stopped ≡ turn.Page = e in cc)
+moves_on false true index n bound e = absurd (let z : turn.Begin n bound ≡ turn.Page = e in cc)
+moves_on false false true n bound e = refl
+moves_on false false false n bound e = absurd (let z : turn.Nothing ≡ turn.Page = e in cc)
 
-pages : (stop begin index : Bool) → choice stop begin index ≡ turn.Page → index ≡ true
-pages true begin index e = absurd (let z : turn.Stopped ≡ turn.Page = e in cc)
-pages false true index e = absurd (let z : turn.Begin ≡ turn.Page = e in cc)
-pages false false true e = refl
-pages false false false e = absurd (let z : turn.Nothing ≡ turn.Page = e in cc)
-
-stays : (stop begin index : Bool) → choice stop begin index ≡ turn.Page → stop ≡ false
-stays true begin index e = absurd (let z : turn.Stopped ≡ turn.Page = e in cc)
-stays false begin index e = refl
-
--- a transform whose checkpoint is moved on is active, with a checkpoint that is not finished, and does not come to its stop
-pub pages_next : (t : Transform) → what_next t ≡ turn.Page → (nat_lt t.finished t.begun && is_active t.state) ≡ true
-pages_next t e = pages (may_stop t) (is_started t.state && nat_eq t.begun 0) (nat_lt t.finished t.begun && is_active t.state) e
-
-pub not_stopped : (t : Transform) → what_next t ≡ turn.Page → may_stop t ≡ false
-not_stopped t e = stays (may_stop t) (is_started t.state && nat_eq t.begun 0) (nat_lt t.finished t.begun && is_active t.state) e
+-- a transform that gets a page is moved on
+pub page_moves_on : (t : Transform) (docs : List Doc) (moment : ℤ) → what_next t docs moment ≡ turn.Page → is_moved_on t ≡ true
+page_moves_on t docs moment e = moves_on (may_stop t) (is_started t.state && is_due t docs moment) (nat_lt t.finished t.begun && is_active t.state) (t.finished + 1) (bound_at t moment) e
 
 -- ---- a transform that is there has a life
 pub record HasLife (past : List Entry) (docs : List Doc) (id : List ℕ) (t : Transform) : Type 0 where
@@ -106,34 +93,28 @@ module _ (past : List Entry) (indices : List SourceIndex) (docs : List Doc) (ts 
   fine : (moment : ℤ) (deed : Deed) → next_move id (read past) moment ≡ Some deed → IsAllowed moment deed (read past)
   fine moment deed e = (moves_are_legal (read past) id moment deed (read_is_legal past s.taken) (subst (λ o. IfSome o (λ m. 0 < m.meaning.page_size)) (sym h.is) some_size) e).0
 
-  next : (moment : ℤ) → next_move id (read past) moment ≡ deed_of past indices docs ts s id t l there h.is h.tells moment (what_next t)
+  next : (moment : ℤ) → next_move id (read past) moment ≡ deed_of past indices docs ts s id t l there h.is h.tells moment (what_next t docs moment)
   next moment = move_is past indices docs ts s id t l there h.is h.tells moment
 
-  pub stop_deed : what_next t ≡ turn.Stopped → (moment : ℤ) → next_move id (read past) moment ≡ Some (Stopped id)
-  stop_deed e moment = next moment ∙ ap (deed_of past indices docs ts s id t l there h.is h.tells moment) e
+  pub stop_deed : (moment : ℤ) → what_next t docs moment ≡ turn.Stopped → next_move id (read past) moment ≡ Some (Stopped id)
+  stop_deed moment e = next moment ∙ ap (deed_of past indices docs ts s id t l there h.is h.tells moment) e
 
-  pub no_deed : what_next t ≡ turn.Nothing → (moment : ℤ) → next_move id (read past) moment ≡ None
-  no_deed e moment = next moment ∙ ap (deed_of past indices docs ts s id t l there h.is h.tells moment) e
+  pub no_deed : (moment : ℤ) → what_next t docs moment ≡ turn.Nothing → next_move id (read past) moment ≡ None
+  no_deed moment e = next moment ∙ ap (deed_of past indices docs ts s id t l there h.is h.tells moment) e
 
-  pub begin_deed : what_next t ≡ turn.Begin → (moment : ℤ) → next_move id (read past) moment ≡ Some (Begin id 1 None)
-  begin_deed e moment =
-      let is_next : next_move id (read past) moment ≡ Some (begin_move id l moment) = next moment ∙ ap (deed_of past indices docs ts s id t l there h.is h.tells moment) e in
-      let begun : t.begun ≡ 0 = same_nat t.begun 0 (both (is_started t.state) (nat_eq t.begun 0) (begins (may_stop t) (is_started t.state && nat_eq t.begun 0) (nat_lt t.finished t.begun && is_active t.state) e)).1 in
-      let may : MayBegin l (documents (read past)) (l.finished + 1) (next_bound l.meaning (last_bound l.checkpoints) moment) moment
-      = subst (λ o. IsSomeAnd o (λ m. MayBegin m (documents (read past)) (l.finished + 1) (next_bound l.meaning (last_bound l.checkpoints) moment) moment)) h.is (fine moment (begin_move id l moment) is_next) in
-      let first : l.finished + 1 ≡ 1 = let idle : l.finished ≡ length l.checkpoints = may.idle in let kept = h.tells.begun in omega arith in
-      is_next ∙ (λ i. Some (Begin id (first i) (unbounded l.meaning (last_bound l.checkpoints) moment (is_batch past indices docs ts s id t l there h.is h.tells moment) i)))
+  pub begin_deed : (moment : ℤ) (n : ℕ) (bound : Option ℤ) → what_next t docs moment ≡ turn.Begin n bound → next_move id (read past) moment ≡ Some (Begin id n bound)
+  begin_deed moment n bound e = next moment ∙ ap (deed_of past indices docs ts s id t l there h.is h.tells moment) e
 
-  some_begun : what_next t ≡ turn.Page → 0 < length l.checkpoints
-  some_begun e =
-      let index = both (nat_lt t.finished t.begun) (is_active t.state) (pages_next t e) in
-      let below : t.finished < t.begun = ltb-true t.finished t.begun index.0 in
+  some_begun : (moment : ℤ) → what_next t docs moment ≡ turn.Page → 0 < length l.checkpoints
+  some_begun moment e =
+      let moved = both (not (may_stop t)) (nat_lt t.finished t.begun && is_active t.state) (page_moves_on t docs moment e) in
+      let below : t.finished < t.begun = ltb-true t.finished t.begun (both (nat_lt t.finished t.begun) (is_active t.state) moved.1).0 in
       omega (arith, below, h.tells.begun)
 
-  page_deed : (e : what_next t ≡ turn.Page) (p : NextPage) → IsNextPage t docs p → (moment : ℤ)
+  page_deed : (moment : ℤ) → what_next t docs moment ≡ turn.Page → (p : NextPage) → IsNextPage t docs p
       → next_move id (read past) moment ≡ Some (deed_by past indices docs ts s id t l there h.is h.tells moment p)
-  page_deed e p made moment =
-      next moment ∙ (ap (deed_of past indices docs ts s id t l there h.is h.tells moment) e ∙ page_next past indices docs ts s id t l there h.is h.tells moment (some_begun e) p made)
+  page_deed moment e p made =
+      next moment ∙ (ap (deed_of past indices docs ts s id t l there h.is h.tells moment) e ∙ page_next past indices docs ts s id t l there h.is h.tells moment (some_begun moment e) p made)
 
   -- the same with the number that is kept
   abbrev now_by : NextPage → Deed
@@ -141,18 +122,18 @@ module _ (past : List Entry) (indices : List SourceIndex) (docs : List Doc) (ts 
   now_by (page.Rows []) = Finish id t.begun
   now_by (page.Rows (r ∷ rows)) = Page id t.begun (r ∷ rows)
 
-  now_deed : (e : what_next t ≡ turn.Page) (p : NextPage) → IsNextPage t docs p → (moment : ℤ) → next_move id (read past) moment ≡ Some (now_by p)
-  now_deed e (page.Fails found) made moment =
-      let is_next = page_deed e (page.Fails found) made moment in
+  now_deed : (moment : ℤ) → what_next t docs moment ≡ turn.Page → (p : NextPage) → IsNextPage t docs p → next_move id (read past) moment ≡ Some (now_by p)
+  now_deed moment e (page.Fails found) made =
+      let is_next = page_deed moment e (page.Fails found) made in
       let may : MayFail l (l.finished + 1) found.key found.name found.value
       = subst (λ o. IsSomeAnd o (λ m. MayFail m (l.finished + 1) found.key found.name found.value)) h.is (fine moment (Fail id (l.finished + 1) found.key found.name found.value) is_next) in
       is_next ∙ ap (λ n. Some (Fail id n found.key found.name found.value)) (may.running.1 ∙ sym h.tells.begun)
-  now_deed e (page.Rows []) made moment =
-      let is_next = page_deed e (page.Rows []) made moment in
+  now_deed moment e (page.Rows []) made =
+      let is_next = page_deed moment e (page.Rows []) made in
       let may : MayFinish l (l.finished + 1) = subst (λ o. IsSomeAnd o (λ m. MayFinish m (l.finished + 1))) h.is (fine moment (Finish id (l.finished + 1)) is_next) in
       is_next ∙ ap (λ n. Some (Finish id n)) (may.running.1 ∙ sym h.tells.begun)
-  now_deed e (page.Rows (r ∷ rows)) made moment =
-      let is_next = page_deed e (page.Rows (r ∷ rows)) made moment in
+  now_deed moment e (page.Rows (r ∷ rows)) made =
+      let is_next = page_deed moment e (page.Rows (r ∷ rows)) made in
       let may : MayPage l (l.finished + 1) (r ∷ rows) = subst (λ o. IsSomeAnd o (λ m. MayPage m (l.finished + 1) (r ∷ rows))) h.is (fine moment (Page id (l.finished + 1) (r ∷ rows)) is_next) in
       is_next ∙ ap (λ n. Some (Page id n (r ∷ rows))) (may.running.1 ∙ sym h.tells.begun)
 
@@ -161,9 +142,9 @@ module _ (past : List Entry) (indices : List SourceIndex) (docs : List Doc) (ts 
   kind_of_now (page.Rows []) = refl
   kind_of_now (page.Rows (r ∷ rows)) = refl
 
-  pub page_kind : (e : what_next t ≡ turn.Page) (p : NextPage) → IsNextPage t docs p → (moment : ℤ)
+  pub page_kind : (moment : ℤ) → what_next t docs moment ≡ turn.Page → (p : NextPage) → IsNextPage t docs p
       → Some (kind_by id t.begun p) ≡ option_and_then kind_of (next_move id (read past) moment)
-  page_kind e p made moment = sym (ap (option_and_then kind_of) (now_deed e p made moment) ∙ kind_of_now p)
+  page_kind moment e p made = sym (ap (option_and_then kind_of) (now_deed moment e p made) ∙ kind_of_now p)
 
 -- ---- the entry of the next move is taken
 abbrev IsAny : List ℕ → Type 0
@@ -195,12 +176,12 @@ module _ (past : List Entry) (indices : List SourceIndex) (docs : List Doc) (ts 
       omega (arith, few, a, b, c)
 
   pivot : is_pivot t.config.shape ≡ true
-  pivot = (form_of t.config (form_is past indices docs ts s id t there).form).pivot
+  pivot = is_pivot_there past indices docs ts s id t there
 
   keys_left_are : (P : List ℕ → Type 0) → AllByRecursion (HasTexts P) docs → AllByRecursion (IsKeyBy P t.config) (keys_next t docs)
   keys_left_are P known =
       all_first (IsKeyBy P t.config) t.config.page_size (keys_left t docs)
-      (changed_keys P t.config pivot (config_in_range past indices docs ts s id t there) t.bound t.position (read_by t docs) (known_docs P known))
+      (changed_keys P t.config pivot (config_in_range past indices docs ts s id t there) t.low t.bound t.position (read_by t docs) (known_docs P known))
     where
       all_first : {X : Type 0} (Q : X → Type 0) (n : ℕ) (xs : List X) → AllByRecursion Q xs → AllByRecursion Q (take n xs)
       all_first Q zero xs all = tt
@@ -228,11 +209,11 @@ module _ (past : List Entry) (indices : List SourceIndex) (docs : List Doc) (ts 
     built = form;
   }
 
-  pub stop_taken : what_next t ≡ turn.Stopped → (moment : ℤ) → IsTimely moment → IsTaken past (moved moment (kind.Stopped id))
-  stop_taken e moment time = taken_next moment (kind.Stopped id) (Stopped id) time (stop_deed past indices docs ts s id t there e moment) refl tt refl
+  pub stop_taken : (moment : ℤ) → what_next t docs moment ≡ turn.Stopped → IsTimely moment → IsTaken past (moved moment (kind.Stopped id))
+  stop_taken moment e time = taken_next moment (kind.Stopped id) (Stopped id) time (stop_deed past indices docs ts s id t there moment e) refl tt refl
 
-  pub begin_taken : what_next t ≡ turn.Begin → (moment : ℤ) → IsTimely moment → IsTaken past (moved moment (kind.Begin id 1 None))
-  begin_taken e moment time = taken_next moment (kind.Begin id 1 None) (Begin id 1 None) time (begin_deed past indices docs ts s id t there e moment) refl tt refl
+  pub begin_taken : (moment : ℤ) (n : ℕ) (bound : Option ℤ) → what_next t docs moment ≡ turn.Begin n bound → IsTimely moment → IsTaken past (moved moment (kind.Begin id n bound))
+  begin_taken moment n bound e time = taken_next moment (kind.Begin id n bound) (Begin id n bound) time (begin_deed past indices docs ts s id t there moment n bound e) refl tt refl
 
   -- the texts of the next entry are short
   pub page_short : AllByRecursion (HasTexts IsShort) docs → IsShortConfig t.config → length docs < 2 ^ 63 → (p : NextPage) → IsNextPage t docs p → IsShortKind (kind_by id t.begun p)
@@ -263,17 +244,17 @@ module _ (past : List Entry) (indices : List SourceIndex) (docs : List Doc) (ts 
           by None is rest f = rest f
           by (Some other) is rest f = subst (IsKeyBy IsShort t.config) (sym (range_key t.config k (counted t.config t.bound (read_by t docs)) found (is ∙ f))) all.0
 
-  pub page_taken : length docs < 2 ^ 63 → what_next t ≡ turn.Page → (p : NextPage) → IsNextPage t docs p → (moment : ℤ) → IsTimely moment → IsTaken past (moved moment (kind_by id t.begun p))
+  pub page_taken : length docs < 2 ^ 63 → (moment : ℤ) → what_next t docs moment ≡ turn.Page → (p : NextPage) → IsNextPage t docs p → IsTimely moment → IsTaken past (moved moment (kind_by id t.begun p))
   unfolding reading
-  page_taken few e (page.Fails found) made moment time =
-      taken_next moment (kind.Fail id t.begun found.key found.name found.value) (Fail id t.begun found.key found.name found.value) time (now_deed past indices docs ts s id t there e (page.Fails found) made moment) refl tt refl
-  page_taken few e (page.Rows []) made moment time =
-      taken_next moment (kind.Finish id t.begun) (Finish id t.begun) time (now_deed past indices docs ts s id t there e (page.Rows []) made moment) refl tt refl
-  page_taken few e (page.Rows (r ∷ rows)) made moment time =
+  page_taken few moment e (page.Fails found) made time =
+      taken_next moment (kind.Fail id t.begun found.key found.name found.value) (Fail id t.begun found.key found.name found.value) time (now_deed past indices docs ts s id t there moment e (page.Fails found) made) refl tt refl
+  page_taken few moment e (page.Rows []) made time =
+      taken_next moment (kind.Finish id t.begun) (Finish id t.begun) time (now_deed past indices docs ts s id t there moment e (page.Rows []) made) refl tt refl
+  page_taken few moment e (page.Rows (r ∷ rows)) made time =
       let kept = has_life past indices docs ts s id t there in
       let fit : AllByRecursion (IsRowOf t.config.shape (read_last kept.found.checkpoints)) (r ∷ rows)
       = rows_of_shape t.config.shape (read_last kept.found.checkpoints) (r ∷ rows) pivot (page_rows IsAny (any_texts docs) few (r ∷ rows) made.0) in
-      taken_next moment (kind.Page id t.begun (r ∷ rows)) (Page id t.begun (r ∷ rows)) time (now_deed past indices docs ts s id t there e (page.Rows (r ∷ rows)) made moment) refl
+      taken_next moment (kind.Page id t.begun (r ∷ rows)) (Page id t.begun (r ∷ rows)) time (now_deed past indices docs ts s id t there moment e (page.Rows (r ∷ rows)) made) refl
       (page_fits (r ∷ rows)
       (subst (λ o. IsSomeAnd o (λ (p : PutTransform). IsSomeAnd (life id (read past)) (λ m. AllByRecursion (IsRowOf p.config.shape (read_last m.checkpoints)) (r ∷ rows)))) (sym (put_is past indices docs ts s id ∙ ap (option_map put_of) there))
       (subst (λ o. IsSomeAnd o (λ m. AllByRecursion (IsRowOf t.config.shape (read_last m.checkpoints)) (r ∷ rows))) (sym kept.is) fit))) refl

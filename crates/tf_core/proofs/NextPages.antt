@@ -40,8 +40,8 @@ ascending_take (suc n) (k ∷ keys) h = (below n keys h.0, ascending_take n keys
 next_ascend : (t : Transform) (docs : List Doc) → IsAscending (keys_next t docs)
 unfolding changed_above changed
 next_ascend t docs =
-    ascending_take t.config.page_size (changed_above t.config None t.bound t.position (read_by t docs))
-    (ascending_filter (is_after t.position) (changed t.config None t.bound (read_by t docs)) (ascending_keys t.config (window t.config None t.bound (read_by t docs))))
+    ascending_take t.config.page_size (changed_above t.config t.low t.bound t.position (read_by t docs))
+    (ascending_filter (is_after t.position) (changed t.config t.low t.bound (read_by t docs)) (ascending_keys t.config (window t.config t.low t.bound (read_by t docs))))
 
 -- a key that is below all of these is above none that is among them
 pub not_below : (k : Key) (keys : List Key) (n : ℕ) (found : Key) → IsBelowAll k keys → n < length keys → slice_index_or keys n found ≡ found → is_gt (key_cmp found k) ≡ true

@@ -32,7 +32,7 @@ use Rattle.tf_core.specs.Standing.{Stands}
 use Rattle.tf_core.specs.Table.{Tells, transform_at}
 use Rattle.tf_core.specs.Texts.{HasTexts, IsShort, IsShortKind, IsShortPut}
 use Rattle.tf_core.proofs.AllowedTransforms.{known_of, no_life}
-use Rattle.tf_core.proofs.FirstCheckpoint.{no_row}
+use Rattle.tf_core.proofs.NewestCheckpoint.{no_row}
 use Rattle.tf_core.proofs.NextKind.{begin_deed, begin_taken, given_is_timely, no_deed, page_kind, page_short, page_taken, stop_deed, stop_taken}
 
 -- ---- what a checkpoint gets next is there
@@ -80,23 +80,23 @@ module _ (past : List Entry) (indices : List SourceIndex) (docs : List Doc) (ts 
   never none = absurd (let z : ◌≡◌ {A = Option Kind} None (Some k) = sym none ∙ next in cc)
 
   found_known : (t : Transform) → transform_at id ts ≡ Some t → IsKnown k
-  found_known t there = by (what_next t) refl
+  found_known t there = by (what_next t docs moment) refl
     where
-      by : (what : Next) → what_next t ≡ what → IsKnown k
+      by : (what : Next) → what_next t docs moment ≡ what → IsKnown k
       by turn.Stopped e =
-          same (kind.Stopped id) (sym (ap (option_and_then kind_of) (stop_deed past indices docs ts s id t there e moment)))
-          (record { taken = λ span later. stop_taken past indices docs ts s id t there e moment (span, later); short = λ known puts. tt })
-      by turn.Begin e =
-          same (kind.Begin id 1 None) (sym (ap (option_and_then kind_of) (begin_deed past indices docs ts s id t there e moment)))
-          (record { taken = λ span later. begin_taken past indices docs ts s id t there e moment (span, later); short = λ known puts. tt })
+          same (kind.Stopped id) (sym (ap (option_and_then kind_of) (stop_deed past indices docs ts s id t there moment e)))
+          (record { taken = λ span later. stop_taken past indices docs ts s id t there moment e (span, later); short = λ known puts. tt })
+      by (turn.Begin n bound) e =
+          same (kind.Begin id n bound) (sym (ap (option_and_then kind_of) (begin_deed past indices docs ts s id t there moment n bound e)))
+          (record { taken = λ span later. begin_taken past indices docs ts s id t there moment n bound e (span, later); short = λ known puts. tt })
       by turn.Page e =
           let p = page_there t docs in
-          same (kind_by id t.begun p.0) (page_kind past indices docs ts s id t there e p.0 p.1 moment)
+          same (kind_by id t.begun p.0) (page_kind past indices docs ts s id t there moment e p.0 p.1)
           (record {
-            taken = λ span later. page_taken past indices docs ts s id t there few e p.0 p.1 moment (span, later);
+            taken = λ span later. page_taken past indices docs ts s id t there few moment e p.0 p.1 (span, later);
             short = λ known puts. page_short past indices docs ts s id t there known (known_of past indices docs ts s IsShortPut id t there puts) few p.0 p.1;
           })
-      by turn.Nothing e = never (ap (option_and_then kind_of) (no_deed past indices docs ts s id t there e moment))
+      by turn.Nothing e = never (ap (option_and_then kind_of) (no_deed past indices docs ts s id t there moment e))
 
   pub next_known : IsKnown k
   next_known = by (transform_at id ts) refl
@@ -110,7 +110,7 @@ module _ (past : List Entry) (indices : List SourceIndex) (docs : List Doc) (ts 
 -- ---- the entry of a work that fits
 pub kind_is : (id : List ℕ) (w : Work) → kind_of (deed_for id w) ≡ Some (kind_for id w)
 kind_is id work.Stopped = refl
-kind_is id (work.Begin n) = refl
+kind_is id (work.Begin n bound) = refl
 kind_is id (work.Page n rows) = refl
 kind_is id (work.Finish n) = refl
 kind_is id (work.Fail n found) = refl

@@ -46,6 +46,7 @@ summary_with docs t rows l same h = record {
   waits = h.waits;
   prompted = h.prompted;
   begun = h.begun;
+  low = h.low;
   bound = h.bound;
   moment = h.moment;
   within = h.within;

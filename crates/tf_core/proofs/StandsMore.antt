@@ -34,7 +34,7 @@ use Rattle.tf_core.specs.Table.{Tells, is_other, place_in, transform_at}
 use Rattle.tf_mapping.specs.Documents.{values_of}
 use Rattle.tf_core.proofs.Changes.{change_tells, few_after, few_more, more_docs, put_stays}
 use Rattle.tf_core.proofs.Tables.{all_filter, all_map, all_set, all_weaker, at_map, at_place, at_remove, at_set, found_within}
-use Rattle.tf_core.proofs.Taken.{is_allowed, is_legal}
+use Rattle.tf_core.proofs.Taken.{is_allowed, read_is_legal}
 
 -- ---- a transform beside other entries
 aside_tells : (docs more : List Doc) (x : Option Transform) (o : Option Life) → Tells docs x o → Tells (docs ++ more) x (life_after docs Aside o)
@@ -60,6 +60,7 @@ wrote past id docs d t l legal is h =
       waits = h.waits;
       prompted = h.prompted;
       begun = h.begun;
+      low = h.low;
       bound = h.bound;
       moment = h.moment;
       within = more.within;
@@ -231,7 +232,7 @@ module _ (past : List Entry) (e : Entry) (indices : List SourceIndex) (docs : Li
     docs_are = ap (λ ds. ds ++ writes (deed_of values_of (catalogue past) e.kind)) stands.docs_are ∙ (ap (λ ds. docs ++ ds) here.writes_is ∙ sym more);
     transforms_are = here.puts_is (transforms past) ∙ (ap (puts_after s) stands.transforms_are ∙ puts_stepped (length docs) s ts ts' h);
     lives = λ id. subst (λ ds. Tells ds (transform_at id ts') (life id (read (e ∷ past)))) (sym more)
-        (subst (λ o. Tells (docs ++ docs_of s) (transform_at id ts') o) (life_is id) (told (read past) docs ts (is_legal past stands.taken) stands.lives s ts' acted step_there is.sound h id));
+        (subst (λ o. Tells (docs ++ docs_of s) (transform_at id ts') o) (life_is id) (told (read past) docs ts (read_is_legal past stands.taken) stands.lives s ts' acted step_there is.sound h id));
     few = few_stepped (length past) (length docs) s ts ts' step_there is.sound h stands.few;
   }
     where

@@ -1,5 +1,5 @@
 -- What is known of entries that are taken.
-use Rattle.std.proofs.Common.{◌≡◌, ℕ, true, ◌&&◌, List, [], ◌∷◌, None, subst}
+use Rattle.std.proofs.Common.{◌≡◌, ℕ, true, List, [], ◌∷◌, None, subst}
 use Rattle.std.specs.Prelude.{is_none}
 use Rattle.tf_model.specs.declared.config.Config.{Config}
 use Rattle.tf_model.specs.declared.entry.Entry.{Entry}
@@ -15,14 +15,14 @@ use Rattle.tf_core.specs.Legal.{IsTaken, IsTakenPast, read, reading}
 use Rattle.tf_mapping.specs.Documents.{values_of}
 use Rattle.tf_core.proofs.Truths.{both, none_of}
 
-pub legal_past : (past : List Entry) → IsTakenPast past → IsLegalPast reading past
-legal_past [] h = tt
-legal_past (e ∷ past) h = (legal_past past h.0, h.1.legal)
+pub taken_is_legal : (past : List Entry) → IsTakenPast past → IsLegalPast reading past
+taken_is_legal [] h = tt
+taken_is_legal (e ∷ past) h = (taken_is_legal past h.0, h.1.legal)
 
 -- a past of taken entries is legal, so the laws of checkpoints hold of it
-pub is_legal : (past : List Entry) → IsTakenPast past → IsLegal (read past)
+pub read_is_legal : (past : List Entry) → IsTakenPast past → IsLegal (read past)
 unfolding reading
-is_legal past h = legal_entries_are_legal reading past (legal_past past h)
+read_is_legal past h = legal_entries_are_legal reading past (taken_is_legal past h)
 
 pub is_allowed : (past : List Entry) (e : Entry) → IsTaken past e → IsAllowed e.at_ms (deed_of values_of (catalogue past) e.kind) (read past)
 unfolding reading
@@ -32,4 +32,4 @@ is_allowed past e h = h.legal.allowed
 pub is_forever : (past : List Entry) (e : Entry) (id : List ℕ) (c : Config) → IsTaken past e → e.kind ≡ kind.Put id c → c.retention ≡ None
 is_forever past e id c h is =
     let built : is_built_config c ≡ true = subst (λ k. is_built k ≡ true) is h.built in
-    none_of c.retention (both (is_none c.sync) (is_none c.retention) (both (is_pivot c.shape) (is_none c.sync && is_none c.retention) built).1).1
+    none_of c.retention (both (is_pivot c.shape) (is_none c.retention) built).1

@@ -22,6 +22,9 @@ at_most_int a b e = grind (arith, ints)
 pub same_int : (a b : ℤ) → int_eq a b ≡ true → a ≡ b
 same_int a b e = grind (arith, ints)
 
+pub int_same : (a b : ℤ) → a ≡ b → int_eq a b ≡ true
+int_same a b e = grind (arith, ints)
+
 pub nat_at_most : (a b : ℕ) → nat_le a b ≡ true → a ≤ b
 nat_at_most a b e = grind arith
 

@@ -23,9 +23,10 @@ use Rattle.tf_model.specs.declared.tree.Tree.{Tree}
 use Rattle.tf_model.specs.declared.value.Key.{Key}
 use Rattle.tf_model.specs.declared.value.Value.{Value}
 use Rattle.tf_model.specs.declared.value.Value.TheVariants as value
+use Rattle.tf_model.specs.Bounds.{due, next_bound}
 use Rattle.tf_model.specs.Changed.{is_after, changed_above}
 use Rattle.tf_model.specs.Conditions.{greatest_date}
-use Rattle.tf_model.specs.Counted.{counted}
+use Rattle.tf_model.specs.Counted.{counted, is_in_window}
 use Rattle.tf_model.specs.Keys.{least_date}
 use Rattle.tf_model.specs.Names.{is_index_name, is_transform_id, is_field_path}
 use Rattle.tf_model.specs.Order.{key_cmp}
@@ -127,12 +128,12 @@ abbrev pub has_names : List SourceIndex → List Transform → List ℕ → List
 has_names indices ts id dest =
     is_transform_id id && (is_none (transform_at id ts) && (nat_lt (length ts) 64 && is_free_name indices ts dest))
 
--- whether a transform may be put: a batch pivot whose configuration passes its checks
+-- whether a transform may be put: a pivot whose configuration passes its checks
 abbrev pub takes_transform : List SourceIndex → List Transform → List ℕ → Config → Bool
 takes_transform indices ts id config =
     has_names indices ts id config.dest && (is_built_config config && passes (catalogued indices) config)
 
--- whether its checkpoint is finished and it makes no other
+-- whether it is a batch transform whose checkpoint is finished, so that it makes no other
 abbrev pub is_over : Transform → Bool
 is_over t = is_none t.config.sync && nat_lt 0 t.finished
 
@@ -151,9 +152,45 @@ may_stop_in _ t = false
 abbrev pub may_stop : Transform → Bool
 may_stop t = may_stop_in t.state t
 
--- the one checkpoint of a batch transform
-abbrev pub may_begin : Transform → ℕ → Option ℤ → Bool
-may_begin t n bound = is_started t.state && (nat_eq t.begun 0 && (nat_eq t.finished 0 && (nat_eq n 1 && is_none bound)))
+-- ---- beginning
+-- the moment of the last Begin, none where there is none
+abbrev pub last_begin : Transform → Option ℤ
+last_begin t = if nat_eq t.begun 0 then None else Some t.begun_ms
+
+-- the bound of a checkpoint that begins at a moment
+abbrev pub bound_at : Transform → ℤ → Option ℤ
+bound_at t at_ms = next_bound t.config t.bound at_ms
+
+-- whether a document is in the window of a checkpoint that begins with a bound: it is in a source, counts below the bound and
+-- is not below the bound of the newest checkpoint
+abbrev pub is_in_next : Transform → Option ℤ → Doc → Bool
+is_in_next t bound d = is_among t.sources d && is_in_window t.config t.bound bound d
+
+-- whether the window of a checkpoint that begins with a bound has a document; docs are all documents written
+abbrev pub has_window : Transform → List Doc → Option ℤ → Bool
+has_window t docs bound = list_any (is_in_next t bound) docs
+
+-- whether a checkpoint that begins at a moment is due where its window has a document
+abbrev pub is_time : Transform → ℤ → Bool
+is_time t at_ms = due t.config (last_begin t) t.prompted true at_ms
+
+-- whether a checkpoint of a started transform with none running is due at a moment
+abbrev pub is_due : Transform → List Doc → ℤ → Bool
+is_due t docs at_ms = due t.config (last_begin t) t.prompted (has_window t docs (bound_at t at_ms)) at_ms
+
+-- whether two bounds are the same
+abbrev pub is_same_bound : Option ℤ → Option ℤ → Bool
+is_same_bound None None = true
+is_same_bound None (Some b) = false
+is_same_bound (Some a) None = false
+is_same_bound (Some a) (Some b) = int_eq a b
+
+-- whether checkpoint n may begin with a bound at a moment: it is the next one of a started transform with none running, it is
+-- due, and the bound is that of the moment
+abbrev pub may_begin : Transform → List Doc → ℕ → Option ℤ → ℤ → Bool
+may_begin t docs n bound at_ms =
+    is_started t.state
+    && (nat_eq t.begun t.finished && (nat_eq n (t.finished + 1) && (is_same_bound bound (bound_at t at_ms) && is_due t docs at_ms)))
 
 -- ---- rows
 -- each row is above the one before, the first above a position
@@ -204,15 +241,15 @@ abbrev pub is_empty : {X : Type 0} → List X → Bool
 is_empty [] = true
 is_empty (x ∷ xs) = false
 
--- the changed keys of a first checkpoint above the position
+-- the changed keys of the newest checkpoint above the position
 abbrev pub keys_left : Transform → List Doc → List Key
-keys_left t docs = changed_above t.config None t.bound t.position (read_by t docs)
+keys_left t docs = changed_above t.config t.low t.bound t.position (read_by t docs)
 
 -- whether none is left
 abbrev pub has_none_left : Transform → List Doc → Bool
 has_none_left t docs = is_empty (keys_left t docs)
 
--- the keys of the next page of a first checkpoint
+-- the keys of the next page of the newest checkpoint
 abbrev pub keys_next : Transform → List Doc → List Key
 keys_next t docs = take t.config.page_size (keys_left t docs)
 
@@ -225,7 +262,7 @@ abbrev pub first_wide : Transform → List Doc → List Key → Option SumRange
 first_wide t docs [] = None
 first_wide t docs (k ∷ keys) = or_else (wide_sum_at t docs k) (first_wide t docs keys)
 
--- the sum for which the next page of a first checkpoint cannot be written
+-- the sum for which the next page of the newest checkpoint cannot be written
 abbrev pub failure : Transform → List Doc → Option SumRange
 failure t docs = first_wide t docs (keys_next t docs)
 
@@ -239,6 +276,10 @@ is_told k name value (Some found) = eq_by_cmp key_cmp k found.key && (bytes_eq n
 abbrev pub test_at : (Transform → Bool) → Option Transform → Bool
 test_at test None = false
 test_at test (Some t) = test t
+
+-- whether checkpoint n of a transform may begin with a bound at a moment
+abbrev pub may_be_begun : List Doc → List Transform → ℤ → List ℕ → ℕ → Option ℤ → Bool
+may_be_begun docs ts at_ms id n bound = test_at (λ t. may_begin t docs n bound at_ms) (transform_at id ts)
 
 -- whether checkpoint n of a transform may be finished
 abbrev pub may_be_finished : List Doc → List Transform → List ℕ → ℕ → Bool
@@ -256,7 +297,7 @@ may_do indices docs ts at_ms (kind.Write index shard seq id tree) = takes_docume
 may_do indices docs ts at_ms (kind.Put id config) = takes_transform indices ts id config
 may_do indices docs ts at_ms (kind.Start id) = test_at may_start (transform_at id ts)
 may_do indices docs ts at_ms (kind.Stopped id) = test_at may_stop (transform_at id ts)
-may_do indices docs ts at_ms (kind.Begin id n bound) = test_at (λ t. may_begin t n bound) (transform_at id ts)
+may_do indices docs ts at_ms (kind.Begin id n bound) = may_be_begun docs ts at_ms id n bound
 may_do indices docs ts at_ms (kind.Page id n rows) = test_at (λ t. may_page t n rows) (transform_at id ts)
 may_do indices docs ts at_ms (kind.Finish id n) = may_be_finished docs ts id n
 may_do indices docs ts at_ms (kind.Fail id n k name value) = may_be_failed docs ts id n k name value

@@ -5,11 +5,11 @@ use Rattle.tf_model.specs.declared.entry.Kind.{Kind}
 use Rattle.tf_model.specs.declared.entry.Kind.TheVariants as kind
 use Rattle.tf_model.specs.Scratch.{is_pivot}
 
--- a batch pivot that keeps all its rows
+-- a pivot that keeps all its rows, batch or continuous
 abbrev pub is_built_config : Config → Bool
-is_built_config c = is_pivot c.shape && (is_none c.sync && is_none c.retention)
+is_built_config c = is_pivot c.shape && is_none c.retention
 
--- Whether an entry is of a form that is built: any index, any document, batch pivots, which are started, and all their moves.
+-- Whether an entry is of a form that is built: any index, any document, pivots, which are started, and all their moves.
 abbrev pub is_built : Kind → Bool
 is_built (kind.Put id config) = is_built_config config
 is_built (kind.Delete id) = false

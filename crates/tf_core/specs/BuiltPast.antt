@@ -1,4 +1,4 @@
--- What a past has whose entries are of the forms that are built: indices, their documents, and batch pivots over them.
+-- What a past has whose entries are of the forms that are built: indices, their documents, and pivots over them.
 use Rattle.std.specs.Prelude.{◌≡◌, ◌≤◌, true, List, length, slice_get, IsSomeAnd}
 use Rattle.std.specs.List.{AllByRecursion}
 use Rattle.tf_model.specs.declared.doc.Doc.{Doc}
@@ -14,7 +14,7 @@ use Rattle.tf_core.specs.Sources.{AreNamedOnce, catalogued}
 abbrev pub IsBuiltDoc : List SourceIndex → Doc → Type 0
 IsBuiltDoc indices d = IsSomeAnd (slice_get indices d.index) (λ i. d.values ≡ values_of i.mapping i.stamp d.tree)
 
--- a batch pivot that passes its checks over indices that are there
+-- a pivot that passes its checks over indices that are there
 pub record IsBuiltPut (indices : List SourceIndex) (p : PutTransform) : Type 0 where
   pub sources : p.sources ≡ source_numbers indices p.config.sources
   pub form : is_built_config p.config ≡ true

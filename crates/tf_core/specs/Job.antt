@@ -1,5 +1,5 @@
 -- The next move of a transform as a job, and the works that fit it.
-use Rattle.std.specs.Prelude.{◌≡◌, ℕ, ℤ, ◌+◌, true, false, List, [], ◌∷◌, Option, Some, None, IsSomeAnd}
+use Rattle.std.specs.Prelude.{◌≡◌, ℕ, ℤ, ◌+◌, true, false, List, ◌∷◌, Option, Some, None, IsSomeAnd}
 use Rattle.tf_model.specs.declared.entry.Entry.{Entry}
 use Rattle.tf_model.specs.declared.entry.Kind.{Kind}
 use Rattle.tf_model.specs.declared.entry.Kind.TheVariants as kind
@@ -9,7 +9,7 @@ use Rattle.tf_history.specs.Configured.{meaning}
 use Rattle.tf_history.specs.Events.{Deed}
 use Rattle.tf_history.specs.Events.Deed.{Stopped, Fail, Begin, Page, Finish}
 use Rattle.tf_history.specs.Legality.{is_active, may_stop, next_move}
-use Rattle.tf_history.specs.Lives.{Checkpoint, Life, is_running, last_bound, last_key, life, read_last}
+use Rattle.tf_history.specs.Lives.{Life, is_running, last_bound, last_key, life, read_last}
 use Rattle.tf_reader.specs.Places.{documents}
 use Rattle.tf_core.specs.declared.job.Job.{Job}
 use Rattle.tf_core.specs.declared.job.Running.{Running}
@@ -19,11 +19,7 @@ use Rattle.tf_core.specs.declared.job.Work.{Work}
 use Rattle.tf_core.specs.declared.job.Work.TheVariants as work
 use Rattle.tf_core.specs.Built.{is_built_config}
 use Rattle.tf_core.specs.Legal.{read}
-
--- the bound of the checkpoint before the newest, none where there is none
-abbrev pub bound_before : List Checkpoint → Option ℤ
-bound_before [] = None
-bound_before (b ∷ before) = last_bound before
+use Rattle.tf_core.specs.Summary.{bound_before}
 
 -- the running checkpoint of a life is moved on: it is active, and does not come to its stop before
 pub record IsMovedOn (l : Life) : Type 0 where
@@ -53,7 +49,7 @@ IsRunningAt past id r = IsSomeAnd (life id (read past)) (λ l. IsCheckpointOf l 
 abbrev pub IsWhat : List Entry → ℤ → List ℕ → Option What → Type 0
 IsWhat past moment id None = next_move id (read past) moment ≡ None
 IsWhat past moment id (Some what.Stopped) = next_move id (read past) moment ≡ Some (Stopped id)
-IsWhat past moment id (Some (what.Begin n)) = next_move id (read past) moment ≡ Some (Begin id n None)
+IsWhat past moment id (Some (what.Begin n bound)) = next_move id (read past) moment ≡ Some (Begin id n bound)
 IsWhat past moment id (Some (what.Page r)) = IsRunningAt past id r
 
 -- the job of a transform after a past at a moment, none exactly where it has no next move
@@ -64,7 +60,7 @@ IsJob past moment id (Some job) = (job.id ≡ id) × IsWhat past moment id (Some
 -- the move that a work makes
 abbrev pub deed_for : List ℕ → Work → Deed
 deed_for id work.Stopped = Stopped id
-deed_for id (work.Begin n) = Begin id n None
+deed_for id (work.Begin n bound) = Begin id n bound
 deed_for id (work.Page n rows) = Page id n rows
 deed_for id (work.Finish n) = Finish id n
 deed_for id (work.Fail n found) = Fail id n found.key found.name found.value
@@ -72,7 +68,7 @@ deed_for id (work.Fail n found) = Fail id n found.key found.name found.value
 -- the same as an entry's kind
 abbrev pub kind_for : List ℕ → Work → Kind
 kind_for id work.Stopped = kind.Stopped id
-kind_for id (work.Begin n) = kind.Begin id n None
+kind_for id (work.Begin n bound) = kind.Begin id n bound
 kind_for id (work.Page n rows) = kind.Page id n rows
 kind_for id (work.Finish n) = kind.Finish id n
 kind_for id (work.Fail n found) = kind.Fail id n found.key found.name found.value

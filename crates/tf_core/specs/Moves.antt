@@ -1,5 +1,5 @@
 -- The entries that the indexer's moves make.
-use Rattle.std.specs.Prelude.{◌≡◌, ℕ, ℤ, pos, int_le, map, nat_lt, nat_eq, ◌&&◌, List, [], ◌∷◌, Option, Some, None, if◌then◌else◌}
+use Rattle.std.specs.Prelude.{◌≡◌, ℕ, ℤ, pos, int_le, map, nat_lt, ◌+◌, Bool, not, ◌&&◌, List, [], ◌∷◌, Option, Some, None, if◌then◌else◌}
 use Rattle.std.specs.Option.{option_map, option_and_then}
 use Rattle.tf_model.specs.declared.config.Config.{Config}
 use Rattle.tf_model.specs.declared.doc.Doc.{Doc}
@@ -21,7 +21,7 @@ use Rattle.tf_core.specs.declared.moving.Next.TheVariants as turn
 use Rattle.tf_core.specs.declared.paging.NextPage.{NextPage}
 use Rattle.tf_core.specs.declared.paging.NextPage.TheVariants as next_page
 use Rattle.tf_core.specs.declared.transform.Transform.{Transform}
-use Rattle.tf_core.specs.Allowing.{failure, keys_next, may_stop, read_by}
+use Rattle.tf_core.specs.Allowing.{bound_at, failure, is_due, keys_next, may_stop, read_by}
 use Rattle.tf_model.specs.Conditions.{greatest_date}
 use Rattle.tf_core.specs.Legal.{read}
 
@@ -62,20 +62,24 @@ kind_of _ = None
 abbrev pub move : List ℕ → List Entry → ℤ → Option Entry
 move id past at_ms = option_map (moved at_ms) (option_and_then kind_of (next_move id (read past) at_ms))
 
--- which move comes next, by what is kept of a batch transform
-abbrev pub what_next : Transform → Next
-what_next t =
+-- which move comes next at a moment, by what is kept of a transform; docs are all documents written
+abbrev pub what_next : Transform → List Doc → ℤ → Next
+what_next t docs at_ms =
     if may_stop t then turn.Stopped
-    else if is_started t.state && nat_eq t.begun 0 then turn.Begin
+    else if is_started t.state && is_due t docs at_ms then turn.Begin (t.finished + 1) (bound_at t at_ms)
     else if nat_lt t.finished t.begun && is_active t.state then turn.Page
     else turn.Nothing
+
+-- whether the newest checkpoint is moved on: it is running, the transform is active, and does not come to its stop before
+abbrev pub is_moved_on : Transform → Bool
+is_moved_on t = not (may_stop t) && (nat_lt t.finished t.begun && is_active t.state)
 
 -- what is made of the keys of a page: the row of each, or the first sum outside i64 of the least that has one
 abbrev pub IsAnswerFor : Config → List Doc → List Key → NextPage → Type 0
 IsAnswerFor c docs keys (next_page.Rows rows) = AreRows c docs keys rows
 IsAnswerFor c docs keys (next_page.Fails found) = IsLeastRange c docs keys found
 
--- the rows of the next page of a first checkpoint, each over all documents that count
+-- the rows of the next page of the newest checkpoint, each over all documents that count
 abbrev pub IsPage : Transform → List Doc → List Row → Type 0
 IsPage t docs rows = map Some rows ≡ map (λ k. pivot_row t.config k (counted t.config t.bound (read_by t docs))) (keys_next t docs)
 
@@ -90,11 +94,11 @@ kind_by id n (next_page.Fails found) = kind.Fail id n found.key found.name found
 kind_by id n (next_page.Rows []) = kind.Finish id n
 kind_by id n (next_page.Rows (r ∷ rows)) = kind.Page id n (r ∷ rows)
 
--- the newest checkpoint of a batch transform
+-- the newest checkpoint of a transform
 pub record IsRunningOf (t : Transform) (docs : List Doc) (r : Running) : Type 0 where
   pub number : r.n ≡ t.begun
   pub config : r.config ≡ t.config
-  pub low : r.low ≡ None
+  pub low : r.low ≡ t.low
   pub high : r.high ≡ t.bound
   pub position : r.after ≡ t.position
   pub docs_are : documents r.reader ≡ read_by t docs

@@ -51,7 +51,7 @@ changed written change.Stop t = record t { state = state.Stopped }
 changed written change.Prompt t = record t { prompted = true }
 changed written (change.Fail reason) t = record t { state = state.Failed; reason = Some reason }
 changed written (change.Begin n bound at_ms) t =
-    record t { begun = n; bound = bound; begun_ms = at_ms; read = written; position = None; pages = 0; state = state.Indexing; prompted = false }
+    record t { begun = n; low = t.bound; bound = bound; begun_ms = at_ms; read = written; position = None; pages = 0; state = state.Indexing; prompted = false }
 changed written (change.Page n rows position) t =
     record t { position = Some position; pages = t.pages + 1; processed = t.processed + 1; indexed = t.indexed + length rows.items }
 changed written (change.Finish n) t = record t { finished = n; state = after_finish t.state }
@@ -64,6 +64,7 @@ changed written change.Reset t =
       waits = false;
       prompted = false;
       begun = 0;
+      low = None;
       bound = None;
       begun_ms = pos 0;
       read = 0;

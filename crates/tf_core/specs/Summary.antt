@@ -1,5 +1,5 @@
 -- What is kept of a transform, as a summary of its life.
-use Rattle.std.specs.Prelude.{◌≡◌, ℕ, ℤ, pos, ◌*◌, ◌≤◌, ◌^◌, List, [], ◌∷◌, length, take, None}
+use Rattle.std.specs.Prelude.{◌≡◌, ℕ, ℤ, pos, ◌*◌, ◌≤◌, ◌^◌, List, [], ◌∷◌, length, take, Option, None}
 use Rattle.tf_model.specs.declared.doc.Doc.{Doc}
 use Rattle.tf_history.specs.Configured.{meaning}
 use Rattle.tf_history.specs.Lives.{Checkpoint, Life, last_bound, read_last, from_sources}
@@ -10,6 +10,11 @@ use Rattle.tf_dest.specs.Tables.{rows_in}
 -- a transform as it was put
 abbrev pub put_of : Transform → PutTransform
 put_of t = record { id = t.id; sources = t.sources; config = t.config }
+
+-- the bound of the checkpoint before the newest, none where there is none
+abbrev pub bound_before : List Checkpoint → Option ℤ
+bound_before [] = None
+bound_before (b ∷ before) = last_bound before
 
 -- the moment of the newest checkpoint, 0 where there is none
 abbrev pub last_moment : List Checkpoint → ℤ
@@ -24,6 +29,7 @@ pub record IsSummary (docs : List Doc) (t : Transform) (l : Life) : Type 0 where
   pub waits : t.waits ≡ l.waits
   pub prompted : t.prompted ≡ l.prompted
   pub begun : t.begun ≡ length l.checkpoints
+  pub low : t.low ≡ bound_before l.checkpoints
   pub bound : t.bound ≡ last_bound l.checkpoints
   pub moment : t.begun_ms ≡ last_moment l.checkpoints
   pub within : t.read ≤ length docs

@@ -286,17 +286,6 @@ pub fn may_stop(transform: &Transform) -> bool
     }
 }
 
-/// Whether checkpoint `n` may begin with this bound.
-pub fn may_begin(transform: &Transform, n: u64, bound: Option<i64>) -> bool
-    ensures { result ≡ spec.may_begin transform.now n bound }
-{
-    is_started(transform.state)
-        && transform.begun == 0
-        && transform.finished == 0
-        && n == 1
-        && bound.is_none()
-}
-
 // Whether checkpoint `n` is running.
 fn is_running(transform: &Transform, n: u64) -> bool
     ensures { result ≡ spec.is_running transform.now n }

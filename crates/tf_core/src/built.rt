@@ -5,11 +5,11 @@ ghost use Rattle.tf_model.specs.Scratch as scratch;
 
 use tf_model::{Config, Shape};
 
-/// Whether a configuration is a batch pivot that keeps all its rows.
+/// Whether a configuration is a pivot that keeps all its rows.
 pub fn is_built_config(config: &Config) -> bool
     ensures { result ≡ spec.is_built_config config.now }
 {
-    is_pivot(&config.shape) && config.sync.is_none() && config.retention.is_none()
+    is_pivot(&config.shape) && config.retention.is_none()
 }
 
 fn is_pivot(shape: &Shape) -> bool

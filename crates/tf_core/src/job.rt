@@ -15,7 +15,11 @@ pub enum What {
     /// The transform comes to its stop.
     Stopped,
     /// Checkpoint `n` begins.
-    Begin { n: u64 },
+    Begin {
+        n: u64,
+        /// Its bound in milliseconds since 1970, none for a batch transform.
+        bound: Option<i64>,
+    },
     /// The running checkpoint gets its next Page, is finished or fails.
     Page(Running),
 }
@@ -40,7 +44,7 @@ pub struct Running {
 #[derive(Drop)]
 pub enum Work {
     Stopped,
-    Begin { n: u64 },
+    Begin { n: u64, bound: Option<i64> },
     Page { n: u64, rows: List<Row> },
     Finish { n: u64 },
     /// A sum is outside `i64`.

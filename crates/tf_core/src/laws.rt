@@ -3,7 +3,7 @@ ghost use Rattle.tf_core.specs.Job.{RunningCheckpointsGoOn};
 ghost use Rattle.tf_core.specs.Laws.{TakenEntriesAreLegal, StampedDocumentsAreNeverLate, AlignedKeysAreApart};
 
 /// Entries that were taken one after the other are legal, so the laws of legal entries hold of every core's history.
-#[tactic(auto, using(crate::proofs::Taken::legal_past))]
+#[tactic(auto, using(crate::proofs::Taken::taken_is_legal))]
 pub fn taken_entries_are_legal()
     ensures { TakenEntriesAreLegal }
 {}

@@ -7,6 +7,7 @@
 
 mod allowing;
 mod applying;
+mod beginning;
 mod built;
 mod catalogue;
 mod counts;
@@ -38,6 +39,7 @@ mod writing;
 pub use built::is_built_config;
 pub use index::Index;
 pub use job::{Job, Running, What, Work};
+pub use kept::Kept;
 pub use laws::{
     aligned_keys_are_apart, running_checkpoints_go_on, stamped_documents_are_never_late,
     taken_entries_are_legal,

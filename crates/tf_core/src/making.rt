@@ -38,6 +38,7 @@ pub fn opened(
         waits: false,
         prompted: false,
         begun: 0,
+        low: None,
         bound: None,
         begun_ms: 0,
         read: 0,

@@ -1,19 +1,20 @@
 // The indexer's next move.
-ghost use Rattle.std.specs.Prelude.{◌≡◌, ◌<◌, ◌≤◌, ◌^◌, ℤ, IfOk, Some, length, reverse};
+ghost use Rattle.std.specs.Prelude.{◌≡◌, ◌<◌, ◌≤◌, ◌^◌, IfOk, Some, true, length, reverse};
 ghost use Rattle.std.specs.List.{AllByRecursion};
 ghost use Rattle.tf_history.specs.Lives.{documents};
 ghost use Rattle.tf_history.specs.Transforms.{transforms as puts};
-ghost use Rattle.tf_core.specs.declared.moving.Next.TheVariants as turn;
 ghost use Rattle.tf_core.specs.Job.{Fits, IsJob, IsRunningAt, IsWhat, kind_for};
 ghost use Rattle.tf_core.specs.Kept.{past_in};
 ghost use Rattle.tf_core.specs.Legal.{IsTaken, read};
 ghost use Rattle.tf_core.specs.Moves as spec;
-ghost use Rattle.tf_core.specs.Moves.{IsRunningOf, moment_after, moved};
+ghost use Rattle.tf_core.specs.Moves.{IsRunningOf, is_moved_on, moment_after, moved};
 ghost use Rattle.tf_core.specs.Standing.{Stands, shared};
 ghost use Rattle.tf_core.specs.Table.{transform_at};
 ghost use Rattle.tf_core.specs.Texts.{HasTexts, IsShort, IsShortKind, IsShortPut};
+ghost use Rattle.tf_model.specs.Conditions.{IsInRange, IsSpan};
 
 use crate::allowing::{GREATEST_DATE, is_active, is_started, may_stop};
+use crate::beginning::{bound_at, is_due};
 use crate::index::Index;
 use crate::job::{Job, Running, What, Work};
 use crate::kept::Kept;
@@ -29,26 +30,33 @@ use tf_model::{Doc, Entry, Key, Kind, OutOfMemory, Text, copy_config, copy_key};
 const INDEXER: u8 = 8;
 
 /// Which move comes next.
-#[derive(Clone, Copy, PartialEq, Eq, Debug)]
+#[derive(Clone, Copy)]
 pub enum Next {
     /// The transform comes to its stop.
     Stopped,
-    /// A checkpoint begins.
-    Begin,
+    /// Checkpoint `n` begins.
+    Begin { n: u64, bound: Option<i64> },
     /// The running checkpoint gets a page, is finished or fails.
     Page,
     /// There is none.
     Nothing,
 }
 
-/// Which move of a batch transform comes next.
-pub fn what_next(transform: &Transform) -> Next
-    ensures { result ≡ spec.what_next transform.now }
+/// Which move of a transform comes next at a moment in milliseconds since 1970.
+pub fn what_next(transform: &Transform, docs: &[Arc<Doc, Global>], at_ms: i64) -> Next
+    requires config { IsInRange transform.now.config }
+    requires begun { IsSpan transform.now.begun_ms }
+    requires few { transform.now.finished < 2 ^ 63 }
+    requires at { IsSpan at_ms }
+    ensures { result ≡ spec.what_next transform.now (shared docs.now) at_ms }
 {
     if may_stop(transform) {
         Next::Stopped
-    } else if is_started(transform.state) && transform.begun == 0 {
-        Next::Begin
+    } else if is_started(transform.state) && is_due(transform, docs, at_ms) {
+        Next::Begin {
+            n: transform.finished + 1,
+            bound: bound_at(transform, at_ms),
+        }
     } else if transform.finished < transform.begun && is_active(transform.state) {
         Next::Page
     } else {
@@ -69,14 +77,15 @@ impl Core {
     pub fn job(&self, id: &Text, now: i64) -> Result<Option<Job>, OutOfMemory>
         ensures { IfOk result (IsJob (reverse self.now.history) (moment_after (reverse self.now.history) now) id.now) }
     {
-        let _given = now;
         let entries = self.entries.as_slice();
         let indices = self.indices.as_slice();
         let docs = self.docs.as_slice();
         let transforms = self.transforms.as_slice();
         match find(transforms, id) {
             None => Ok(None),
-            Some(found) => job_of(self.alloc, entries, indices, docs, transforms, id, found),
+            Some(found) => job_of(
+                self.alloc, entries, indices, docs, transforms, id, found, now,
+            ),
         }
     }
 
@@ -102,7 +111,7 @@ impl Core {
     }
 }
 
-// The job of a transform that is there.
+// The job of a transform that is there, at the moment that a given one makes.
 fn job_of(
     alloc: Global,
     entries: &[Kept],
@@ -111,12 +120,14 @@ fn job_of(
     transforms: &[Transform],
     id: &Text,
     found: &Transform,
+    now: i64,
 ) -> Result<Option<Job>, OutOfMemory>
     requires stands { Stands (past_in entries.now) indices.now (shared docs.now) transforms.now }
     requires found { transform_at id.now transforms.now ≡ Some found.now }
-    ensures { IfOk result (λ job. (moment : ℤ) → IsJob (past_in entries.now) moment id.now job) }
+    requires few { length entries.now < 2 ^ 63 }
+    ensures { IfOk result (IsJob (past_in entries.now) (moment_after (past_in entries.now) now) id.now) }
 {
-    match what_of(alloc, entries, indices, docs, transforms, id, found)? {
+    match what_of(alloc, entries, indices, docs, transforms, id, found, now)? {
         Some(what) => Ok(Some(Job {
             id: id.copy(alloc)?,
             what,
@@ -125,7 +136,7 @@ fn job_of(
     }
 }
 
-// What the next move of a transform is.
+// What the next move of a transform is, at the moment that a given one makes.
 fn what_of(
     alloc: Global,
     entries: &[Kept],
@@ -134,14 +145,16 @@ fn what_of(
     transforms: &[Transform],
     id: &Text,
     found: &Transform,
+    now: i64,
 ) -> Result<Option<What>, OutOfMemory>
     requires stands { Stands (past_in entries.now) indices.now (shared docs.now) transforms.now }
     requires found { transform_at id.now transforms.now ≡ Some found.now }
-    ensures { IfOk result (λ what. (moment : ℤ) → IsWhat (past_in entries.now) moment id.now what) }
+    requires few { length entries.now < 2 ^ 63 }
+    ensures { IfOk result (IsWhat (past_in entries.now) (moment_after (past_in entries.now) now) id.now) }
 {
-    match what_next(found) {
+    match what_next(found, docs, moment_of(entries, now)) {
         Next::Stopped => Ok(Some(What::Stopped)),
-        Next::Begin => Ok(Some(What::Begin { n: 1 })),
+        Next::Begin { n, bound } => Ok(Some(What::Begin { n, bound })),
         Next::Page => {
             let running = checkpoint_of(alloc, entries, indices, docs, transforms, id, found)?;
             Ok(Some(What::Page(running)))
@@ -162,13 +175,13 @@ fn checkpoint_of(
 ) -> Result<Running, OutOfMemory>
     requires stands { Stands (past_in entries.now) indices.now (shared docs.now) transforms.now }
     requires found { transform_at id.now transforms.now ≡ Some found.now }
-    requires page { spec.what_next found.now ≡ turn.Page }
+    requires moved { is_moved_on found.now ≡ true }
     ensures { IfOk result (IsRunningAt (past_in entries.now) id.now) }
 {
     running_of(alloc, found, docs)
 }
 
-// The newest checkpoint of a batch transform.
+// The newest checkpoint of a transform.
 fn running_of(
     alloc: Global,
     transform: &Transform,
@@ -180,7 +193,7 @@ fn running_of(
     Ok(Running {
         n: transform.begun,
         config: copy_config(alloc, &transform.config)?,
-        low: None,
+        low: transform.low,
         high: transform.bound,
         after: copy_position(alloc, &transform.position)?,
         reader: reader_of(alloc, transform, docs)?,
@@ -236,7 +249,7 @@ fn kind_of(id: Text, work: Work) -> Kind
 {
     match work {
         Work::Stopped => Kind::Stopped { id },
-        Work::Begin { n } => Kind::Begin { id, n, bound: None },
+        Work::Begin { n, bound } => Kind::Begin { id, n, bound },
         Work::Page { n, rows } => Kind::Page { id, n, rows },
         Work::Finish { n } => Kind::Finish { id, n },
         Work::Fail { n, sum } => Kind::Fail {

@@ -30,7 +30,7 @@ pub enum NextPage {
     Fails(SumRange),
 }
 
-/// What the running checkpoint of a batch transform gets next: the rows of the least changed keys above the position, as
+/// What the running checkpoint of a transform gets next: the rows of the least changed keys above the position, as
 /// many as the page size or all that are left, or the sum for which they cannot be written.
 #[tactic(auto, using(crate::proofs::NextPages::answer_is))]
 pub fn next_page(
@@ -48,6 +48,7 @@ pub fn next_page(
         alloc,
         &reader,
         &transform.config,
+        transform.low,
         transform.bound,
         transform.position.as_ref(),
         Blank::new(1),
@@ -59,6 +60,7 @@ fn page_from<L: Ledger>(
     alloc: Global,
     reader: &Reader,
     config: &Config,
+    low: Option<i64>,
     bound: Option<i64>,
     position: Option<&Key>,
     blank: Blank,
@@ -68,14 +70,14 @@ fn page_from<L: Ledger>(
     requires name { blank.name ≡ L.name }
     requires parts { blank.parts ≡ L.parts }
     requires some { 0 < blank.parts }
-    ensures { IfOk result (IsAnswerFor config.now (counted config.now bound (documents reader.now)) (take config.now.page_size (changed_above config.now None bound (option_copied position.entry) (documents reader.now)))) }
+    ensures { IfOk result (IsAnswerFor config.now (counted config.now bound (documents reader.now)) (take config.now.page_size (changed_above config.now low bound (option_copied position.entry) (documents reader.now)))) }
 {
     let mut steps = Steps::<L>::new(blank);
     let changed = changed_after(
         alloc,
         reader,
         config,
-        None,
+        low,
         bound,
         position,
         config.page_size,
@@ -88,7 +90,7 @@ fn page_from<L: Ledger>(
     }
 }
 
-/// Whether the running checkpoint of a batch transform cannot get its next page for this sum.
+/// Whether the running checkpoint of a transform cannot get its next page for this sum.
 pub fn fails_with(
     alloc: Global,
     transform: &Transform,

@@ -1,5 +1,5 @@
 // The documents that a checkpoint reads.
-ghost use Rattle.std.specs.Prelude.{◌≡◌, ◌<◌, ◌≤◌, ◌++◌, ◌∷◌, [], IfOk, OnOk, None, filter, take, length, map};
+ghost use Rattle.std.specs.Prelude.{◌≡◌, ◌<◌, ◌≤◌, ◌++◌, ◌∷◌, [], IfOk, OnOk, filter, take, length, map};
 ghost use Rattle.std.specs.Arc.{arc_value};
 ghost use Rattle.std.specs.Option.{option_copied};
 ghost use Rattle.tf_model.specs.Changed.{changed_above};
@@ -78,7 +78,7 @@ fn push_if(
     Ok(())
 }
 
-/// Whether no changed key of a transform's first checkpoint is above its position.
+/// Whether no changed key of a transform's newest checkpoint is above its position.
 pub fn none_left(
     alloc: Global,
     transform: &Transform,
@@ -94,6 +94,7 @@ pub fn none_left(
         alloc,
         &reader,
         &transform.config,
+        transform.low,
         transform.bound,
         transform.position.as_ref(),
         Blank::new(1),
@@ -105,6 +106,7 @@ fn none_after<L: Ledger>(
     alloc: Global,
     reader: &Reader,
     config: &Config,
+    low: Option<i64>,
     bound: Option<i64>,
     position: Option<&Key>,
     blank: Blank,
@@ -114,9 +116,9 @@ fn none_after<L: Ledger>(
     requires name { blank.name ≡ L.name }
     requires parts { blank.parts ≡ L.parts }
     requires some { 0 < blank.parts }
-    ensures { IfOk result (λ none. none ≡ is_empty (changed_above config.now None bound (option_copied position.entry) (documents reader.now))) }
+    ensures { IfOk result (λ none. none ≡ is_empty (changed_above config.now low bound (option_copied position.entry) (documents reader.now))) }
 {
     let mut steps = Steps::<L>::new(blank);
-    let changed = changed_after(alloc, reader, config, None, bound, position, 1, &mut steps)?;
+    let changed = changed_after(alloc, reader, config, low, bound, position, 1, &mut steps)?;
     Ok(changed.keys.is_empty())
 }

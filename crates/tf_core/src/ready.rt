@@ -1,6 +1,7 @@
 // What is prepared for entries.
-ghost use Rattle.std.specs.Prelude.{◌≡◌};
+ghost use Rattle.std.specs.Prelude.{◌≡◌, ◌<◌, length, get_or};
 ghost use Rattle.tf_core.specs.Chain.{entries_in};
+ghost use Rattle.tf_core.specs.Kept.{entry_of};
 
 use crate::index::Index;
 use crate::kept::Kept;
@@ -81,6 +82,22 @@ impl Ready {
         ensures steps { result.steps ≡ steps.items }
     {
         Ready { steps }
+    }
+
+    /// How many entries there are. Takes no memory.
+    pub fn len(&self) -> usize
+        ensures { result ≡ length self.now.entries }
+    {
+        self.steps.len()
+    }
+
+    /// The entry at a place, as it will be kept. Takes no memory.
+    pub fn get(&self, at: usize) -> &Kept
+        requires { at < length self.now.entries }
+        ensures { entry_of result.now ≡ get_or self.now.entries at (entry_of result.now) }
+    {
+        let prepared = &self.steps[at];
+        &prepared.kept
     }
 
     /// The prepared entries, which are moved. Takes no memory.

@@ -1,7 +1,8 @@
 // Which entries are taken.
 ghost use Rattle.std.specs.Prelude.{◌≡◌, ◌↔◌, IfOk, true, reverse};
-ghost use Rattle.tf_core.specs.Allowing.{is_timely as timely, may_be_failed as failed_spec, may_be_finished as finished_spec, may_do as spec};
+ghost use Rattle.tf_core.specs.Allowing.{is_timely as timely, may_be_begun as begun_spec, may_be_failed as failed_spec, may_be_finished as finished_spec, may_do as spec};
 ghost use Rattle.tf_core.specs.Held.{last_ms_of};
+ghost use Rattle.tf_model.specs.Conditions.{IsSpan};
 ghost use Rattle.tf_core.specs.Counts.{AreCounted};
 ghost use Rattle.tf_core.specs.Ids.{AreIndexed};
 ghost use Rattle.tf_core.specs.Kept.{history_in, past_in};
@@ -9,9 +10,10 @@ ghost use Rattle.tf_core.specs.Legal.{IsTaken};
 ghost use Rattle.tf_core.specs.Standing.{Stands, shared};
 
 use crate::allowing::{
-    is_timely, may_begin, may_finish, may_page, may_start, may_stop, takes_document, takes_index,
+    is_timely, may_finish, may_page, may_start, may_stop, takes_document, takes_index,
     takes_transform,
 };
+use crate::beginning::may_begin;
 use crate::counts::Counts;
 use crate::ids::Ids;
 use crate::index::Index;
@@ -61,8 +63,10 @@ fn is_taken(
     requires counted { AreCounted counts.now (shared docs.now) }
     ensures { IfOk result (λ taken. (taken ≡ true) ↔ IsTaken (past_in entries.now) entry.now) }
 {
-    let timely = is_in_time(entries, entry);
-    let may = may_do(
+    if !is_in_time(entries, entry) {
+        return Ok(false);
+    }
+    may_do(
         alloc,
         ids,
         counts,
@@ -72,8 +76,7 @@ fn is_taken(
         transforms,
         entry.at_ms,
         &entry.kind,
-    )?;
-    Ok(timely && may)
+    )
 }
 
 fn is_in_time(entries: &[Kept], entry: &Entry) -> bool
@@ -92,7 +95,7 @@ pub fn last_moment(entries: &[Kept]) -> i64
     }
 }
 
-// Whether what an entry does may be done at a moment.
+// Whether what an entry does may be done at a moment that is in range.
 fn may_do(
     alloc: Global,
     ids: &Ids,
@@ -107,6 +110,7 @@ fn may_do(
     requires stands { Stands (past_in entries.now) indices.now (shared docs.now) transforms.now }
     requires indexed { AreIndexed ids.now (shared docs.now) }
     requires counted { AreCounted counts.now (shared docs.now) }
+    requires at { IsSpan at_ms }
     ensures { IfOk result (λ may. may ≡ spec indices.now (shared docs.now) transforms.now at_ms kind.now) }
 {
     match kind {
@@ -130,7 +134,7 @@ fn may_do(
         Kind::Start { id } => Ok(find(transforms, id).is_some_and(|found| may_start(found))),
         Kind::Stopped { id } => Ok(find(transforms, id).is_some_and(|found| may_stop(found))),
         Kind::Begin { id, n, bound } => {
-            Ok(find(transforms, id).is_some_and(|found| may_begin(found, *n, *bound)))
+            Ok(may_be_begun(entries, indices, docs, transforms, at_ms, id, *n, *bound))
         }
         Kind::Page { id, n, rows } => {
             Ok(find(transforms, id).is_some_and(|found| may_page(found, *n, rows.as_slice())))
@@ -149,6 +153,26 @@ fn may_do(
         ),
         Kind::Delete { .. } | Kind::StopAsked { .. } | Kind::Schedule { .. } | Kind::Reset { .. } =>
             Ok(false),
+    }
+}
+
+fn may_be_begun(
+    entries: &[Kept],
+    indices: &[Index],
+    docs: &[Arc<Doc, Global>],
+    transforms: &[Transform],
+    at_ms: i64,
+    id: &Text,
+    n: u64,
+    bound: Option<i64>,
+) -> bool
+    requires stands { Stands (past_in entries.now) indices.now (shared docs.now) transforms.now }
+    requires at { IsSpan at_ms }
+    ensures { result ≡ begun_spec (shared docs.now) transforms.now at_ms id.now n bound }
+{
+    match find(transforms, id) {
+        Some(found) => may_begin(found, docs, n, bound, at_ms),
+        None => false,
     }
 }
 

@@ -23,6 +23,8 @@ pub struct Transform {
     pub prompted: bool,
     /// How many checkpoints have begun.
     pub begun: u64,
+    /// The bound of the checkpoint before the newest.
+    pub low: Option<i64>,
     /// The bound of the newest checkpoint.
     pub bound: Option<i64>,
     /// The moment of the newest checkpoint, 0 where there is none.
@@ -50,7 +52,7 @@ pub struct Transform {
 }
 
 impl Transform {
-    /// Whether its checkpoint is finished and it makes no other.
+    /// Whether it is a batch transform whose checkpoint is finished, so that it makes no other.
     pub fn is_over(&self) -> bool
         ensures { result ≡ allowing.is_over self.now }
     {
@@ -100,6 +102,7 @@ impl Transform {
         ensures { Changed written (change.Begin n bound at_ms) self.old self.new }
     {
         self.begun = n;
+        self.low = self.bound;
         self.bound = bound;
         self.begun_ms = at_ms;
         self.read = written;
@@ -140,6 +143,7 @@ impl Transform {
         self.waits = false;
         self.prompted = false;
         self.begun = 0;
+        self.low = None;
         self.bound = None;
         self.begun_ms = 0;
         self.read = 0;

@@ -232,7 +232,12 @@ asked_taken past actor given (op.Delete id) taken few formed = tt
 asked_taken past actor given (op.Stop id wait force) taken few formed = tt
 asked_taken past actor given (op.Reset id) taken few formed = tt
 asked_taken past actor given (op.ScheduleNow id) taken few formed = tt
-asked_taken past actor given (op.Step id) taken few formed = tt
+asked_taken past actor given (op.Step id) taken few formed =
+    by_test (Asks past) (is_transform_id id) _ _ (λ named. by_there (is_some (transform_of id past))) (λ bad. tt)
+  where
+    by_there : (there : Bool) → Asks past (spec.step_of id there)
+    by_there true = tt
+    by_there false = tt
 asked_taken past actor given (op.Await id checkpoint) taken few formed = tt
 asked_taken past actor given (op.Stats id) taken few formed = tt
 asked_taken past actor given (op.Preview config) taken few formed = tt

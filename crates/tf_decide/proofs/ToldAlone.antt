@@ -16,6 +16,8 @@ use Rattle.tf_config.specs.Reading as configs
 use Rattle.tf_mapping.specs.declared.error.MappingError.{MappingError}
 use Rattle.tf_mapping.specs.Mappings as mappings
 use Rattle.tf_reply.specs.declared.faults.Refusal.{Refusal}
+use Rattle.tf_reply.specs.declared.faults.Refusal.TheVariants as refusal
+use Rattle.tf_history.proofs.Lists.{and_first, and_second}
 use Rattle.tf_reply.specs.declared.replies.Reply.{Reply}
 use Rattle.tf_reply.specs.Refusals.{config_refusal, mapping_refusal}
 use Rattle.tf_history.specs.Catalogue.{catalogue}
@@ -32,7 +34,7 @@ use Rattle.tf_decide.specs.declared.asked.Asked.{Asked}
 use Rattle.tf_decide.specs.declared.standing.Standing.{Standing}
 use Rattle.std.specs.Option.{option_map as map_option}
 use Rattle.tf_decide.specs.Asking as spec
-use Rattle.tf_decide.specs.Replying.{IsAccepted, is_refused, is_settle, reply_alone, reply_by, told_alone}
+use Rattle.tf_decide.specs.Replying.{IsAccepted, is_refused, reply_alone, reply_by, told_alone}
 
 -- where it is not refused, this is told
 abbrev TellsOnly : Answer → Asked → Type 0
@@ -88,6 +90,13 @@ module _ (past : List Entry) (actor : ℕ) (given : ℤ) where
       by_standing None = refused (answer.Started id) _
       by_standing (Some s) = by_state s.state s.is_over
 
+  step_told : (id : List ℕ) → TellsOnly (answer.Stepped id) (spec.asked_step past id)
+  step_told id = by_test (answer.Stepped id) (is_transform_id id) _ _ (by_there (is_some (transform_of id past))) (refused (answer.Stepped id) _)
+    where
+      by_there : (there : Bool) → TellsOnly (answer.Stepped id) (spec.step_of id there)
+      by_there true = λ accepted. refl
+      by_there false = refused (answer.Stepped id) _
+
   search_told : (name : List ℕ) (size : ℕ) → TellsOnly (answer.Shown (record { dest = name; after = None; size = size })) (spec.asked_search past name size None)
   search_told name size = by_test shows (spec.may_be_searched past name) _ _ (by_transform (find (is_into name) (transforms past))) (refused shows _)
     where
@@ -109,6 +118,7 @@ told_is : (past : List Entry) (actor : ℕ) (given : ℤ) (o : Op) (a : Answer) 
 told_is past actor given (op.CreateIndex name tree shards stamp quick) a is accepted = index_told past actor given name tree shards stamp accepted ∙ told_one is
 told_is past actor given (op.PutTransform id config) a is accepted = put_told past actor given id config accepted ∙ told_one is
 told_is past actor given (op.Start id) a is accepted = start_told past actor given id accepted ∙ told_one is
+told_is past actor given (op.Step id) a is accepted = step_told past actor given id accepted ∙ told_one is
 told_is past actor given op.Settle a is accepted = told_one is
 told_is past actor given (op.Search name size None) a is accepted = search_told past actor given name size accepted ∙ told_one is
 told_is past actor given o a is accepted = absurd (not_told a is)
@@ -141,11 +151,17 @@ never_none line now o = by (told_alone o)
     by None some none = let no : false ≡ true = some in cc
     by (Some a) some none = let no : ◌≡◌ {A = Option Reply} None (Some (reply_by line now now a)) = none in cc
 
--- ---- a settling
-pub settling_alone : (o : Op) → is_settle o ≡ true → is_some (told_alone o) ≡ true
-settling_alone op.Settle is = refl
-settling_alone o is = absurd (let no : false ≡ true = is in cc)
+-- ---- what moves follow
+pub settling_accepted : (past : List Entry) (o : Op) → o ≡ op.Settle → IsAccepted past o
+settling_accepted past o is actor given = ap (λ o. is_refused (spec.asked past actor given o).answer) is
 
-pub settling_accepted : (past : List Entry) (o : Op) → is_settle o ≡ true → IsAccepted past o
-settling_accepted past op.Settle is = λ actor given. refl
-settling_accepted past o is = absurd (let no : false ≡ true = is in cc)
+-- what a step asks for of a transform that is there
+pub step_asks : (past : List Entry) (actor : ℕ) (given : ℤ) (o : Op) (id : List ℕ) → o ≡ op.Step id → spec.may_step past id ≡ true
+    → spec.asked past actor given o ≡ spec.tells (answer.Stepped id)
+step_asks past actor given o id is there =
+    ap (spec.asked past actor given) is
+    ∙ (ap (λ b. cond b (spec.step_of id (is_some (transform_of id past))) (spec.refuses (refusal.BadName id))) (and_first (is_transform_id id) (is_some (transform_of id past)) there)
+    ∙ ap (spec.step_of id) (and_second (is_transform_id id) (is_some (transform_of id past)) there))
+
+pub step_accepted : (past : List Entry) (o : Op) (id : List ℕ) → o ≡ op.Step id → spec.may_step past id ≡ true → IsAccepted past o
+step_accepted past o id is there actor given = ap (λ a. is_refused a.answer) (step_asks past actor given o id is there)

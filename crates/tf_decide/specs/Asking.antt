@@ -262,6 +262,19 @@ abbrev pub asked_start : List Entry → ℕ → ℤ → List ℕ → Asked
 asked_start past actor given id =
     if is_transform_id id then start_of past actor given id (option_map standing_of (life id (read past))) else refuses (refusal.BadName id)
 
+-- ---- the next move of a transform
+-- a transform is there
+abbrev pub may_step : List Entry → List ℕ → Bool
+may_step past id = is_transform_id id && is_some (transform_of id past)
+
+-- it is to make its next move, which is none of the command's own entries
+abbrev pub step_of : List ℕ → Bool → Asked
+step_of id false = refuses (refusal.NoSuchTransform id)
+step_of id true = tells (answer.Stepped id)
+
+abbrev pub asked_step : List Entry → List ℕ → Asked
+asked_step past id = if is_transform_id id then step_of id (is_some (transform_of id past)) else refuses (refusal.BadName id)
+
 -- ---- rows are searched
 abbrev pub may_be_searched : List Entry → List ℕ → Bool
 may_be_searched past name = is_index_name name && not (is_index past name)
@@ -299,6 +312,7 @@ asked past actor given (op.Index name id tree) = asked_written past actor given 
 asked past actor given (op.Bulk name docs) = asked_bulk past actor given name docs
 asked past actor given (op.PutTransform id config) = asked_put past actor given id config
 asked past actor given (op.Start id) = asked_start past actor given id
+asked past actor given (op.Step id) = asked_step past id
 asked past actor given op.Settle = tells answer.Settled
 asked past actor given (op.Search name size after) = asked_search past name size after
 asked past actor given _ = unsupported

@@ -14,9 +14,10 @@ use Rattle.tf_decide.specs.declared.asked.Asked.{Asked}
 abbrev pub kinds : List Entry → List Kind
 kinds entries = map (λ (e : Entry). e.kind) entries
 
--- where a start is told, a Start is the one entry; where rows are shown, there is none
+-- where a start is told, a Start is the one entry; where a step is told or rows are shown, there is none
 abbrev pub Follows : List Entry → Answer → Type 0
 Follows entries (answer.Started id) = kinds entries ≡ kind.Start id ∷ []
+Follows entries (answer.Stepped id) = entries ≡ []
 Follows entries (answer.Shown search) = entries ≡ []
 Follows entries _ = Unit {0}
 

@@ -79,6 +79,7 @@ reply_by line before now answer.Created = reply.Created line (length now)
 reply_by line before now (answer.Written seq shard) = reply.Written line (length now) seq shard
 reply_by line before now (answer.Tried items) = reply.Bulk line (length now) (length before) items
 reply_by line before now (answer.Started id) = task line (length now) id (life id (read now))
+reply_by line before now (answer.Stepped id) = task line (length now) id (life id (read now))
 reply_by line before now answer.Settled = reply.Settled line (length now)
 reply_by line before now (answer.Shown s) = found_now line now s
 reply_by line before now (answer.Refused r) = reply.Refused line (length now) r
@@ -102,6 +103,7 @@ abbrev pub told_alone : Op → Option Answer
 told_alone (op.CreateIndex name mappings shards stamp quick) = Some answer.Created
 told_alone (op.PutTransform id config) = Some answer.Created
 told_alone (op.Start id) = Some (answer.Started id)
+told_alone (op.Step id) = Some (answer.Stepped id)
 told_alone op.Settle = Some answer.Settled
 told_alone (op.Search name size after) = shown_whole name size after
 told_alone _ = None
@@ -113,10 +115,6 @@ IsAccepted past o = (actor : ℕ) (given : ℤ) → is_refused (asked past actor
 -- the reply to such a command by the past now
 abbrev pub reply_alone : ℕ → List Entry → Op → Option Reply
 reply_alone line now o = option_map (reply_by line now now) (told_alone o)
-
-abbrev pub is_settle : Op → Bool
-is_settle op.Settle = true
-is_settle _ = false
 
 -- the reply to a command when moves were made: what it answers is told by the past before it, and what is shown by the past now
 abbrev pub replied_after : List Entry → List Entry → ℕ → ℤ → Parts → Reply

@@ -12,6 +12,8 @@ pub enum Answer {
     Tried(List<Item>),
     /// A transform was started: how it stands is told.
     Started(Text),
+    /// The next move of a transform is to be made, where it has one: how it then stands is told.
+    Stepped(Text),
     /// The transforms are to be settled.
     Settled,
     /// Rows of a destination are shown.

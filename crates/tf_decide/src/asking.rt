@@ -12,6 +12,7 @@ use crate::indices::ask_index;
 use crate::making::{told, unsupported};
 use crate::rows::ask_search;
 use crate::starting::ask_start;
+use crate::stepping::ask_step;
 use crate::transforms::ask_put;
 use std::alloc::Global;
 use tf_command::Op;
@@ -38,6 +39,7 @@ pub fn ask(alloc: Global, core: &Core, op: &Op, given: &Given) -> Result<Asked, 
         Op::Bulk { index, docs } => ask_bulk(alloc, core, index, docs, given),
         Op::PutTransform { id, config } => ask_put(alloc, core, id, config, given),
         Op::Start { id } => ask_start(alloc, core, id, given),
+        Op::Step { id } => ask_step(alloc, core, id),
         Op::Settle => Ok(told(alloc, Answer::Settled)),
         Op::Search { index, size, after } => ask_search(alloc, core, index, *size, after),
         _ => Ok(unsupported(alloc)),

@@ -1,8 +1,9 @@
 // What commands find in a core.
-ghost use Rattle.std.specs.Prelude.{◌≡◌, reverse};
+ghost use Rattle.std.specs.Prelude.{◌≡◌, is_some, reverse};
 ghost use Rattle.std.specs.Option.{option_map};
 ghost use Rattle.tf_history.specs.Catalogue.{catalogue, number_of};
 ghost use Rattle.tf_history.specs.Lives.{life};
+ghost use Rattle.tf_history.specs.Transforms.{transform_of};
 ghost use Rattle.tf_core.specs.Legal.{read};
 ghost use Rattle.tf_decide.specs.Asking as spec;
 
@@ -33,6 +34,13 @@ pub fn is_index(core: &Core, name: &Text) -> bool
     ensures { result ≡ spec.is_index (reverse core.now.history) name.now }
 {
     core.index_number(name).is_some()
+}
+
+/// Whether a transform has an id.
+pub fn is_transform(core: &Core, id: &Text) -> bool
+    ensures { result ≡ is_some (transform_of id.now (reverse core.now.history)) }
+{
+    core.transform(id).is_some()
 }
 
 /// How the transform with an id stands.

@@ -17,8 +17,10 @@ mod replying;
 mod rows;
 mod standing;
 mod starting;
+mod stepping;
 mod transforms;
 
 pub use decision::{Decision, decide};
 pub use laws::no_refusal_depends_on_the_moment;
 pub use moved::reply;
+pub use stepping::may_step;

@@ -1,16 +1,14 @@
 // The reply to a command after the moves that follow it.
 ghost use Rattle.std.specs.Prelude.{◌≡◌, ◌≤◌, ℕ, ℤ, IfOk, None, is_some, true, length, option_map, reverse, take};
-ghost use Rattle.tf_history.specs.Lives.{life};
-ghost use Rattle.tf_core.specs.Legal.{read};
 ghost use Rattle.tf_decide.specs.Replying as spec;
 ghost use Rattle.tf_decide.specs.Replying.{IsAccepted, replied_after, told_alone};
 
 use crate::asked::Search;
-use crate::replying::{shown, task};
+use crate::replying::{shown, task_now};
 use std::alloc::Global;
 use tf_command::{Command, Op};
 use tf_core::Core;
-use tf_model::{List, OutOfMemory, State, Text, Tree};
+use tf_model::{List, OutOfMemory, Text, Tree};
 use tf_reply::Reply;
 
 /// The reply to a command that moves follow, when they are made. The history had `from` entries before the command: by
@@ -43,21 +41,15 @@ fn reply_alone(alloc: Global, core: &Core, line: u64, op: &Op) -> Result<Option<
             let id = id.copy(alloc)?;
             Ok(Some(task_now(core, line, no, id)))
         }
+        Op::Step { id } => {
+            let id = id.copy(alloc)?;
+            Ok(Some(task_now(core, line, no, id)))
+        }
         Op::Settle => Ok(Some(Reply::Settled { line, no })),
         Op::Search { index, size, after } => {
             shown_whole(alloc, core, line, no, index, *size, after)
         }
         _ => Ok(None),
-    }
-}
-
-// How a transform stands.
-fn task_now(core: &Core, line: u64, no: u64, id: Text) -> Reply
-    ensures { result ≡ spec.task line no id (life id (read (reverse core.now.history))) }
-{
-    match core.transform(&id) {
-        None => task(line, no, id, State::Stopped, 0),
-        Some(transform) => task(line, no, id, transform.state, transform.finished),
     }
 }
 

@@ -52,6 +52,7 @@ pub fn reply_to(
             })
         }
         Answer::Started(id) => Ok(started(core, line, no, entries, id)),
+        Answer::Stepped(id) => Ok(stepped(core, line, no, entries, id)),
         Answer::Settled => Ok(Reply::Settled { line, no }),
         Answer::Shown(search) => shown(alloc, core, line, no, entries, &search),
         Answer::Refused(refusal) => Ok(Reply::Refused { line, no, refusal }),
@@ -82,8 +83,27 @@ fn started(core: &Core, line: u64, no: u64, entries: &List<Entry>, id: Text) -> 
     }
 }
 
-/// How a transform stands, as a reply.
-pub fn task(line: u64, no: u64, id: Text, state: State, checkpoint: u64) -> Reply
+// How a transform stands where no entry comes.
+fn stepped(core: &Core, line: u64, no: u64, entries: &List<Entry>, id: Text) -> Reply
+    requires { Follows entries.now (answer.Stepped id) }
+    ensures { result ≡ spec.task line no id (life id (read (reverse entries.now ++ reverse core.now.history))) }
+{
+    let _none = entries;
+    task_now(core, line, no, id)
+}
+
+/// How a transform stands by the history of a core.
+pub fn task_now(core: &Core, line: u64, no: u64, id: Text) -> Reply
+    ensures { result ≡ spec.task line no id (life id (read (reverse core.now.history))) }
+{
+    match core.transform(&id) {
+        None => task(line, no, id, State::Stopped, 0),
+        Some(transform) => task(line, no, id, transform.state, transform.finished),
+    }
+}
+
+// How a transform stands, as a reply.
+fn task(line: u64, no: u64, id: Text, state: State, checkpoint: u64) -> Reply
     ensures { result ≡ reply.Task line no id state checkpoint }
 {
     Reply::Task {

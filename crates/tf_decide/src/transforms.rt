@@ -1,13 +1,13 @@
 // Transforms that are put.
-ghost use Rattle.std.specs.Prelude.{◌≡◌, ◌≤◌, IfOk, is_some, reverse};
+ghost use Rattle.std.specs.Prelude.{◌≡◌, ◌≤◌, IfOk, reverse};
 ghost use Rattle.tf_command.specs.Formed.{IsObject, IsShort};
 ghost use Rattle.tf_event.specs.Configs.{FitsConfig};
 ghost use Rattle.tf_event.specs.declared.grammar.Grammar.TheVariants.{First};
-ghost use Rattle.tf_history.specs.Transforms.{transform_of};
 ghost use Rattle.tf_decide.specs.Asking as spec;
 ghost use Rattle.tf_decide.specs.Ready.{IsReady};
 
 use crate::asked::{Answer, Asked};
+use crate::finding::is_transform;
 use crate::giving::Given;
 use crate::making::{entry_after, made, refused, text_is_utf8, unsupported};
 use std::alloc::Global;
@@ -70,7 +70,7 @@ fn put_new(
     ensures asked { IfOk result (λ asked. asked ≡ spec.put_new (reverse core.now.history) given.now.actor given.now.at_ms id config.now) }
     ensures ready { IfOk result (IsReady (reverse core.now.history)) }
 {
-    if is_used(core, &id) {
+    if is_transform(core, &id) {
         return Ok(refused(alloc, Refusal::TransformExists { id }));
     }
     let indices = core.catalogue()?;
@@ -78,12 +78,6 @@ fn put_new(
         Ok(config) => put_with(alloc, core, id, config, given),
         Err(error) => Ok(refused(alloc, config_refusal(error)?)),
     }
-}
-
-fn is_used(core: &Core, id: &Text) -> bool
-    ensures { result ≡ is_some (transform_of id.now (reverse core.now.history)) }
-{
-    core.transform(id).is_some()
 }
 
 // The name of the destination is free, there are fewer than 64 transforms, and transforms of this form are built.

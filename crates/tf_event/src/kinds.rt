@@ -10,10 +10,10 @@ use crate::basics::read_byte;
 use crate::grammar::Grammar;
 use crate::refusal::Refusal;
 use crate::spell::Spell;
-use crate::trees::read_printed;
+use crate::trees::{read_printed, write_source};
 use crate::values::write_place;
 use std::alloc::Global;
-use tf_model::{Config, Key, Kind, List, Mapping, OutOfMemory, Row, Text, Tree};
+use tf_model::{Config, Doc, Key, Kind, List, Mapping, OutOfMemory, Row, Text, Tree};
 
 #[tactic(auto, unfolding(crate::specs::Entries::index_at))]
 fn read_index(alloc: Global, grammar: Grammar, bytes: &[u8]) -> Result<(Kind, &[u8]), Refusal>
@@ -284,6 +284,24 @@ fn write_index(
     write_named(alloc, 1, name, grammar, out)?;
     shards.write(alloc, grammar, out)?;
     write_form(alloc, mapping, stamp, quick, grammar, out)
+}
+
+/// A document with its place and its id, whose tree stands as its text.
+#[tactic(auto, using(crate::proofs::Fronts::fronts), unfolding(crate::specs::Entries::spelled_kind))]
+pub(crate) fn write_doc(
+    alloc: Global,
+    doc: &Doc,
+    grammar: Grammar,
+    out: &mut List<u8>,
+) -> Result<(), OutOfMemory>
+    ensures ok { OnOk result (out.new ≡ out.old ++ spec.spelled_kind grammar
+        (kind.Write doc.now.index doc.now.shard doc.now.seq doc.now.id doc.now.tree)) }
+    ensures err { OnErr result (BeginsWith out.new out.old) }
+{
+    out.push(2)?;
+    write_place(alloc, doc.index, doc.shard, doc.seq, grammar, out)?;
+    doc.id.write(alloc, grammar, out)?;
+    write_source(&doc.tree, out)
 }
 
 /// A document written at its index, shard and sequence number.

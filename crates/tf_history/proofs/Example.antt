@@ -33,8 +33,8 @@ use Rattle.tf_history.specs.Events.{Deed, Event}
 use Rattle.tf_history.specs.Events.Deed.{Index, Write, Put, Start, Stopped, Begin, Page, Finish, Fail, StopAsked}
 use Rattle.tf_history.specs.Grouping.{scratch}
 use Rattle.tf_history.specs.Configured.{meaning}
-use Rattle.tf_history.specs.Lives.{Life, cutoff, written}
-use Rattle.tf_history.specs.Legality.{IsLegal, next_move}
+use Rattle.tf_history.specs.Lives.{Life, cutoff, documents, life, written}
+use Rattle.tf_history.specs.Legality.{IsLegal, moves_left, next_move}
 use Rattle.tf_history.specs.Legality.{IsAllowed}
 use Rattle.tf_history.specs.Histories.{past_of, life_of, AllRight}
 use Rattle.tf_history.specs.Catalogue.{ValuesOf}
@@ -141,6 +141,30 @@ from_plain f x e = ap f (sym (plain_is total None)) ∙ e
 rows_at_the_end : rows_of (life_of t (history sums)) ≡ sum_row 1 25 ∷ sum_row 2 10 ∷ []
 unfolding key_cmp value_cmp value_of keys_of key_of floor_to aligned retained
 rows_at_the_end = from_plain (λ c. rows_of (life_of t (history c))) _ refl
+
+-- how many moves are left at most after so many entries, at a moment
+abbrev left_after : ℕ → ℕ → Meaning → Option ℕ
+left_after k m c = let past = past_of (take k (history c)) in option_map (λ l. moves_left l (documents past) (pos m)) (life t past)
+
+-- before the first checkpoint: its Begin, two Pages, its Finish and a Stopped
+all_is_left : left_after 5 4 sums ≡ Some 5
+unfolding key_cmp value_cmp value_of keys_of key_of floor_to aligned retained
+all_is_left = from_plain (λ c. left_after 5 4 c) _ refl
+
+-- after its first Page, at its own moment: a Page, the Finish and a Stopped, for the document at the bound waits
+rest_is_left : left_after 8 4 sums ≡ Some 3
+unfolding key_cmp value_cmp value_of keys_of key_of floor_to aligned retained
+rest_is_left = from_plain (λ c. left_after 8 4 c) _ refl
+
+-- at the moment of the second checkpoint that one follows: a Begin, a Page, a Finish and a Stopped
+next_is_left_too : left_after 8 6 sums ≡ Some 7
+unfolding key_cmp value_cmp value_of keys_of key_of floor_to aligned retained
+next_is_left_too = from_plain (λ c. left_after 8 6 c) _ refl
+
+-- at the end there is none
+none_is_left : left_after 17 6 sums ≡ Some 0
+unfolding key_cmp value_cmp value_of keys_of key_of floor_to aligned retained
+none_is_left = from_plain (λ c. left_after 17 6 c) _ refl
 
 none_is_late : late_of (life_of t (history sums)) ≡ Some 0
 unfolding key_cmp value_cmp value_of keys_of key_of floor_to aligned retained

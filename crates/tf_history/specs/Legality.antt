@@ -227,13 +227,18 @@ move_of t l docs moment =
 abbrev pub next_move : List ℕ → List Event → ℤ → Option Deed
 next_move t past moment = option_and_then (λ l. move_of t l (documents past) moment) (life t past)
 
--- how many moves a batch transform has left at most, where nothing else acts on it and the moment stays: a Stopped; a Begin,
--- its Pages, a Finish and a Stopped; or what is left of these. (A continuous transform may have a checkpoint more.)
-abbrev pub batch_moves_left : Life → List Doc → ℤ → ℕ
-batch_moves_left l docs moment =
+-- how many moves the next checkpoint takes at most: where it is due a Begin, a Page for each changed key, a Finish and a Stopped
+abbrev pub moves_of_next : Life → List Doc → ℤ → ℕ
+moves_of_next l docs moment = if is_due l docs moment then length (changed l.meaning (next_checkpoint l docs moment ∷ l.checkpoints)) + 3 else 0
+
+-- How many moves a transform has left at most, where nothing else acts on it and the moment stays: a Stopped; the Pages of the
+-- running checkpoint, its Finish, a Stopped, and the checkpoint that is due behind it; or the one that is due alone. Behind a
+-- Begin of this moment none is due: it would have the same bound, so its window is empty.
+abbrev pub moves_left : Life → List Doc → ℤ → ℕ
+moves_left l docs moment =
     if may_stop l.state l then 1
-    else if is_started l.state && is_due l docs moment then length (changed l.meaning (next_checkpoint l docs moment ∷ l.checkpoints)) + 3
-    else if is_running l && is_active l.state then length (to_do l) + 2
+    else if is_running l && is_active l.state then length (to_do l) + 2 + moves_of_next l docs moment
+    else if is_started l.state then moves_of_next l docs moment
     else 0
 
 -- ---- counts

@@ -5,7 +5,7 @@
 //! the least changed keys above the position.
 #![tactic(auto)]
 
-ghost use Rattle.tf_history.specs.Histories.{EachPrefixIsGrouped, RightAfterIsRight, MovesAreLegal, BatchMovesEnd};
+ghost use Rattle.tf_history.specs.Histories.{EachPrefixIsGrouped, RightAfterIsRight, MovesAreLegal, MovesEnd};
 ghost use Rattle.tf_history.specs.Agreement.{MeaningsAgree};
 ghost use Rattle.tf_history.specs.ConfiguredLaws.{AlignedKeysAppearOnce, StampedSourcesAreNeverLate};
 ghost use Rattle.tf_history.specs.Entries.{EntriesAreGrouped, LivesAreConfigured, LivesAreSteady};
@@ -109,10 +109,10 @@ pub fn moves_are_legal()
     ensures { MovesAreLegal }
 {}
 
-/// Each move of a batch transform leaves fewer moves, so a settling of it ends.
-#[tactic(auto, using(crate::proofs::EndsLaw::batch_moves_end))]
-pub fn batch_moves_end()
-    ensures { BatchMovesEnd }
+/// At one moment each move of a transform leaves fewer moves, so a settling ends.
+#[tactic(auto, using(crate::proofs::EndsLaw::moves_end))]
+pub fn moves_end()
+    ensures { MovesEnd }
 {}
 
 /// The words of a meaning that is made from a configuration are those of the configuration itself: what counts, keys,

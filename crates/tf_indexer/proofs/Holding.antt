@@ -38,7 +38,7 @@ module _ (past : List Entry) (id : List ℕ) (r : Running) (at : IsRunningAt pas
 
 pub can_be_planned : (past : List Entry) (moment : ℤ) (id : List ℕ) (w : What) → IsWhat past moment id (Some w) → CanBePlanned w
 can_be_planned past moment id what.Stopped is = tt
-can_be_planned past moment id (what.Begin n) is = tt
+can_be_planned past moment id (what.Begin n bound) is = tt
 can_be_planned past moment id (what.Page r) is = (in_range_at past id r is, fit_at past id r is)
 
 -- ---- behind a Page

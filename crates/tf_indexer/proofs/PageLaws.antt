@@ -28,9 +28,10 @@ use Rattle.tf_plan.specs.declared.page.Page.{Page as PlanPage}
 use Rattle.tf_plan.specs.declared.page.Page.TheVariants as page
 use Rattle.tf_plan.proofs.PositionLaws.{ascending_keys}
 use Rattle.tf_core.specs.declared.job.Running.{Running}
-use Rattle.tf_core.specs.Job.{Fits, IsCheckpointOf, bound_before, deed_for}
+use Rattle.tf_core.specs.Job.{Fits, IsCheckpointOf, deed_for}
 use Rattle.tf_core.specs.Legal.{read}
-use Rattle.tf_core.proofs.FirstCheckpoint.{no_row, pivoted}
+use Rattle.tf_core.specs.Summary.{bound_before}
+use Rattle.tf_core.proofs.NewestCheckpoint.{no_row, pivoted}
 use Rattle.tf_core.proofs.Fitting.{form_of}
 use Rattle.tf_core.proofs.NextMove.{rows_made}
 use Rattle.tf_core.proofs.NextPages.{ascending_take, not_below}

@@ -119,7 +119,7 @@ impl Indexer {
         let Job { id, what } = job;
         match what {
             What::Stopped => Ok(Work::Stopped),
-            What::Begin { n } => Ok(Work::Begin { n }),
+            What::Begin { n, bound } => Ok(Work::Begin { n, bound }),
             What::Page(running) => {
                 let held = Planned::make(alloc, id, running)?;
                 self.go_on(alloc, held)

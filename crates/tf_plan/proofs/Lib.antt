@@ -2,7 +2,9 @@ pub mod CallsLaw
 pub mod FoldsLaws
 pub mod HashedLaws
 pub mod KeysLaws
+pub mod LatestLaws
 pub mod LeftLaws
+pub mod NewestLaws
 pub mod PositionLaws
 pub mod RowsLaws
 pub mod SortedLaws

@@ -1,5 +1,5 @@
 -- The position behind a page.
-use Rattle.std.proofs.Common.{◌≡◌, ℕ, zero, suc, List, [], ◌∷◌, map, take, drop, refl, sym, ap, subst, ◌∙◌}
+use Rattle.std.proofs.Common.{◌≡◌, ℕ, zero, suc, List, [], ◌∷◌, map, take, drop, refl, sym, ap, subst}
 use Rattle.std.specs.Prelude.{ℤ, Option, Some, None, unwrap_or, filter}
 use Rattle.std.specs.Option.{option_map, option_or}
 use Rattle.std.specs.Prelude.{IfOk}
@@ -57,7 +57,7 @@ drop_none (suc n) [] e = refl
 drop_none (suc n) (k ∷ ks) e = absurd (cc)
 
 -- above the last key of a page are the keys behind it
-above_last : (c : Config) (low high : Option ℤ) (after : Option Key) (docs : List Doc) (size : ℕ) (last : Option Key) → last_of (take size (changed_above c low high after docs)) ≡ last
+pub above_last : (c : Config) (low high : Option ℤ) (after : Option Key) (docs : List Doc) (size : ℕ) (last : Option Key) → last_of (take size (changed_above c low high after docs)) ≡ last
     → changed_above c low high (option_or last after) docs ≡ drop size (changed_above c low high after docs)
 unfolding changed_above changed
 above_last c low high after docs size None e = sym (drop_none size (filter (is_after after) (all_keys c (window c low high docs))) (no_last (take size (filter (is_after after) (all_keys c (window c low high docs)))) e))

@@ -6,12 +6,15 @@ mod above;
 mod folds;
 mod hashed;
 mod laws;
+mod naming;
+mod newest;
 mod page;
 mod passes;
 mod plan;
 mod rows;
+mod scanning;
 mod sorted;
 
-pub use laws::pages_are_those_of_two_calls;
+pub use laws::{latest_pages_are_those_of_two_calls, pages_are_those_of_two_calls};
 pub use page::Page;
 pub use plan::Plan;

@@ -1,23 +1,28 @@
 // Plans.
-ghost use Rattle.std.specs.Prelude.{◌≡◌, ◌+◌, ◌++◌, ◌≤◌, ℤ, IfOk, List, None, OnErr, Option, length, take, drop};
+ghost use Rattle.std.specs.Prelude.{◌≡◌, ◌+◌, ◌++◌, ◌≤◌, ℕ, ℤ, IfOk, List, None, OnErr, Option, length, take, drop};
 ghost use Rattle.std.specs.Option.{option_copied};
 ghost use Rattle.tf_model.specs.declared.config.Config.{Config as C};
 ghost use Rattle.tf_model.specs.declared.doc.Doc.{Doc as D};
 ghost use Rattle.tf_model.specs.declared.value.Key.{Key as K};
+ghost use Rattle.tf_model.specs.declared.config.Shape.{Shape as S};
 ghost use Rattle.tf_model.specs.Conditions.{AllFit, IsInRange};
 ghost use Rattle.tf_model.specs.Counted.{counted, window};
+ghost use Rattle.tf_model.specs.Latest.{sort_of};
 ghost use Rattle.tf_plan.specs.Left.{IsPage, IsPlan, behind, left_after, next_page, position_after, rows_page};
 ghost use Rattle.tf_plan.specs.Left as spec;
+ghost use Rattle.tf_plan.specs.Shaped.{IsLatestPlan, IsShapedPage, IsShapedPlan};
 ghost use Rattle.tf_reader.specs.Places.{documents};
 
+use crate::naming::{named_rows, sorted_newest};
 use crate::page::Page;
 use crate::passes::changed_folds;
 use crate::rows::rows_of;
+use crate::scanning::changed_newest;
 use crate::sorted::sorted_folds;
 use std::alloc::Global;
 use std::marker::Model;
 use std::sync::ledger::Ledger;
-use tf_model::{Config, Key, List, OutOfMemory, Row, Steps, SumRange, copy_key};
+use tf_model::{Config, Key, List, OutOfMemory, Row, Shape, Steps, SumRange, Text, copy_key};
 use tf_reader::Reader;
 
 /// What is left of a checkpoint: the changed keys above a position with their rows, up to the first key that has a sum
@@ -76,15 +81,48 @@ impl Plan {
         rows_of(alloc, config, sorted)
     }
 
+    /// The plan of a configuration of either shape: that of `make` for a pivot. For a latest the rows are those of
+    /// `tf_latest::rows_for`, and none is missing for a sum. `sources` are the numbers of the source indices in the order of
+    /// the configuration.
+    ///
+    /// `OutOfMemory` is the only error.
+    pub fn make_for<L: Ledger>(
+        alloc: Global,
+        reader: &Reader,
+        sources: &[u64],
+        config: &Config,
+        low: Option<i64>,
+        high: Option<i64>,
+        after: Option<&Key>,
+        steps: &mut Steps<L>,
+    ) -> Result<Plan, OutOfMemory>
+        requires config { IsInRange config.now }
+        requires docs { AllFit config.now (documents reader.now) }
+        ensures plan { IfOk result (IsShapedPlan config.now.shape sources.now config.now low high (option_copied after.entry) (documents reader.now)) }
+        ensures cost { steps.new ≤ steps.old + length (window config.now low high (documents reader.now)) + length (counted config.now high (documents reader.now)) }
+        ensures once { low ≡ None → steps.new ≤ steps.old + length (counted config.now high (documents reader.now)) }
+    {
+        match &config.shape {
+            Shape::Pivot { .. } => Plan::make(alloc, reader, config, low, high, after, steps),
+            Shape::Latest { sort, .. } => {
+                latest_plan(
+                    alloc, reader, sources, config, sort, low, high, after, steps,
+                )
+            }
+        }
+    }
+
     /// The next page: the rows of the least keys that are left, as many as `size` or all, or the sum for which they cannot
     /// be given. The rows are moved out, and the position moves to the last of them. After a sum the plan is as before, and
     /// also after `OutOfMemory`, the only error.
     ///
     /// It is what `tf_page::changed_after` gives above the position, with the rows that `tf_pivot::rows_for` makes of its
-    /// keys.
+    /// keys, and for the plan of a latest those of `tf_latest::rows_for`.
     pub fn next(&mut self, alloc: Global, size: u32) -> Result<Page, OutOfMemory>
         ensures page { (c : C) (low high : Option ℤ) (after : Option K) (docs : List D) → IsPlan c low high after docs self.old → IfOk result (IsPage c low high after docs size) }
         ensures left { (c : C) (low high : Option ℤ) (after : Option K) (docs : List D) → IsPlan c low high after docs self.old → IfOk result (λ page. IsPlan c low high (position_after after page) docs self.new) }
+        ensures shaped_page { (s : S) (sources : List ℕ) (c : C) (low high : Option ℤ) (after : Option K) (docs : List D) → IsShapedPlan s sources c low high after docs self.old → IfOk result (IsShapedPage s sources c low high after docs size) }
+        ensures shaped_left { (s : S) (sources : List ℕ) (c : C) (low high : Option ℤ) (after : Option K) (docs : List D) → IsShapedPlan s sources c low high after docs self.old → IfOk result (λ page. IsShapedPlan s sources c low high (position_after after page) docs self.new) }
         ensures err { OnErr result (self.new ≡ self.old) }
     {
         self.next_of(alloc, size as usize)
@@ -142,6 +180,33 @@ impl Plan {
         rows.reverse();
         Ok(List::from_vec(rows))
     }
+}
+
+/// The plan of a latest with this sort field.
+fn latest_plan<L: Ledger>(
+    alloc: Global,
+    reader: &Reader,
+    sources: &[u64],
+    config: &Config,
+    sort: &Text,
+    low: Option<i64>,
+    high: Option<i64>,
+    after: Option<&Key>,
+    steps: &mut Steps<L>,
+) -> Result<Plan, OutOfMemory>
+    requires config { IsInRange config.now }
+    requires docs { AllFit config.now (documents reader.now) }
+    requires sort { sort.now ≡ sort_of config.now.shape }
+    ensures plan { IfOk result (IsLatestPlan sources.now config.now low high (option_copied after.entry) (documents reader.now)) }
+    ensures cost { steps.new ≤ steps.old + length (window config.now low high (documents reader.now)) + length (counted config.now high (documents reader.now)) }
+    ensures once { low ≡ None → steps.new ≤ steps.old + length (counted config.now high (documents reader.now)) }
+{
+    let newest = changed_newest(
+        alloc, reader, sources, config, sort, low, high, after, steps,
+    )?;
+    let sorted = sorted_newest(alloc, newest)?;
+    let rows = named_rows(alloc, sorted)?;
+    Ok(Plan::new(rows, None))
 }
 
 /// Takes the last items off.

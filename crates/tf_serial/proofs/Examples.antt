@@ -1,5 +1,5 @@
--- A settling of two transforms over an index without documents.
-use Rattle.std.proofs.Common.{◌≡◌, ℕ, List, [], ◌∷◌, None, true, false, refl}
+-- Settlings and steps of transforms over an index without documents.
+use Rattle.std.proofs.Common.{◌≡◌, ℕ, List, [], ◌∷◌, None, Some, true, false, refl}
 use Rattle.std.specs.Prelude.{pos, codes}
 use Rattle.tf_model.specs.declared.config.AggKind.TheVariants.{Sum}
 use Rattle.tf_model.specs.declared.config.Config.{Config}
@@ -9,8 +9,10 @@ use Rattle.tf_model.specs.declared.entry.Entry.{Entry}
 use Rattle.tf_model.specs.declared.entry.Kind.{Kind}
 use Rattle.tf_model.specs.declared.entry.Kind.TheVariants as kind
 use Rattle.tf_model.specs.declared.query.Query.TheVariants as query
+use Rattle.tf_model.specs.Bounds.{aligned}
 use Rattle.tf_core.specs.Listing.{ids_after}
 use Rattle.tf_core.specs.Moves.{moved}
+use Rattle.tf_serial.specs.Following.{Step, followed}
 use Rattle.tf_serial.specs.Moves.{settled}
 
 -- a batch pivot into a destination
@@ -77,3 +79,32 @@ settled_again = refl
 -- nor does one where no transform is there
 none_there : settled (pos 9) [] ≡ []
 none_there = refl
+
+-- ---- steps
+-- a step makes one move of its transform, and of one that is not there none
+one_step : followed (pos 9) (Step (codes "b")) two ≡ moved (pos 9) (kind.Begin (codes "b") 1 None) ∷ two
+one_step = refl
+
+no_step : followed (pos 9) (Step (codes "c")) two ≡ two
+no_step = refl
+
+-- ---- a continuous transform, which is started
+abbrev continuous : List Entry
+continuous =
+    asked (kind.Start (codes "b"))
+    ∷ asked (kind.Put (codes "b") (record (into (codes "d")) { sync = Some (record { field = codes "ts"; delay_ms = pos 1 }) }))
+    ∷ asked (kind.Index (codes "s") 1 (record { fields = [] }) None false)
+    ∷ []
+
+-- its first checkpoint, over no document
+abbrev first_done : List Entry
+first_done = moved (pos 9) (kind.Finish (codes "b") 1) ∷ moved (pos 9) (kind.Begin (codes "b") 1 (Some (pos 8))) ∷ continuous
+
+first_settling : settled (pos 9) continuous ≡ first_done
+unfolding aligned
+first_settling = refl
+
+-- it stays started, and no later one is due while its window has no document
+later_settling : settled (pos 70000) first_done ≡ first_done
+unfolding aligned
+later_settling = refl

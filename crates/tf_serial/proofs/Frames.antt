@@ -7,10 +7,10 @@ use Rattle.tf_model.specs.declared.entry.Entry.{Entry}
 use Rattle.tf_core.specs.Listing.{ids_after}
 use Rattle.tf_serial.specs.Frames.{IsMove, IsOfPass, IsOnly, IsSettling}
 use Rattle.tf_serial.specs.Moves.{left_in, moved_out, moves, next_move, pass, passes, settled}
-use Rattle.tf_serial.specs.Settling.{AreBatch, IsAdvanced}
+use Rattle.tf_serial.specs.Settling.{ArePaced, IsAdvanced}
 use Rattle.tf_serial.proofs.MoveByMove.{moves_add, moves_on, moves_stay}
 use Rattle.tf_serial.proofs.OneMove.{fewer_left}
-use Rattle.tf_serial.proofs.Passes.{moved_out_on, moved_out_through, moves_batch, pass_add, pass_again, passes_batch, passes_more, settled_is}
+use Rattle.tf_serial.proofs.Passes.{moved_out_on, moved_out_through, moves_paced, pass_add, pass_again, passes_paced, passes_more, settled_is}
 use Rattle.tf_serial.proofs.Prefixes.{moves_begin, pass_begins}
 
 -- the first move
@@ -42,16 +42,16 @@ module _ (given : ℤ) (id : List ℕ) (past mid : List Entry) (so_far : IsMadeF
     alone = is.alone;
   }
 
-  module _ (batch : AreBatch past) where
-    batch_now : AreBatch mid
-    batch_now = subst AreBatch (sym so_far.1) (moves_batch given so_far.0 id past batch)
+  module _ (paced : ArePaced past) where
+    paced_now : ArePaced mid
+    paced_now = subst ArePaced (sym so_far.1) (moves_paced given so_far.0 id past paced)
 
     out_of : moved_out given id mid ≡ moved_out given id past
-    out_of = ap (moved_out given id) so_far.1 ∙ moved_out_through given so_far.0 id past batch
+    out_of = ap (moved_out given id) so_far.1 ∙ moved_out_through given so_far.0 id past paced
 
     -- fewer are left behind the next one
     pub fewer_now : (now : List Entry) (e : Entry) → next_move given id mid ≡ Some e → now ≡ e ∷ mid → left_in given id now < left_in given id mid
-    fewer_now now e next is = subst (λ p. left_in given id p < left_in given id mid) (sym is) (fewer_left given id mid e next batch_now)
+    fewer_now now e next is = subst (λ p. left_in given id p < left_in given id mid) (sym is) (fewer_left given id mid e next paced_now)
 
     -- with no next one the transform is moved out
     pub all_made : (now : List Entry) → IsAdvanced given false id mid now → now ≡ moved_out given id past
@@ -65,7 +65,7 @@ module _ (given : ℤ) (id : List ℕ) (past mid : List Entry) (so_far : IsMadeF
         by None is = subst (λ now. IsPrefix (reverse now) (reverse (moved_out given id mid))) (sym (moves_stay given 1 id mid is)) (moves_begin given mid (left_in given id mid) id)
         by (Some e) is =
             subst (λ now. IsPrefix (reverse now) (reverse (moved_out given id mid))) (sym (moves_on given 1 0 id mid e refl is))
-            (subst (λ now. IsPrefix (reverse (e ∷ mid)) (reverse now)) (moved_out_on given id mid e batch_now is) (moves_begin given (e ∷ mid) (left_in given id (e ∷ mid)) id))
+            (subst (λ now. IsPrefix (reverse (e ∷ mid)) (reverse now)) (moved_out_on given id mid e paced_now is) (moves_begin given (e ∷ mid) (left_in given id (e ∷ mid)) id))
 
 -- ---- a pass over transforms
 -- one of them, behind those before it
@@ -103,10 +103,10 @@ module _ (given : ℤ) (ids : List (List ℕ)) (past mid : List Entry) (all : id
   pub settling_frames : (left next : List Entry) → IsOfPass given ids mid left next → IsSettling given past left next
   settling_frames left next is = record { made = so_far.0; move = subst (λ l. IsOfPass given l (passes given so_far.0 l past) left next) all (subst (λ p. IsOfPass given ids p left next) so_far.1 is) }
 
-  module _ (batch : AreBatch past) where
-    pub passed_batch : AreBatch mid
-    passed_batch = subst AreBatch (sym so_far.1) (passes_batch given so_far.0 ids past batch)
+  module _ (paced : ArePaced past) where
+    pub passed_paced : ArePaced mid
+    passed_paced = subst ArePaced (sym so_far.1) (passes_paced given so_far.0 ids past paced)
 
     -- a further pass makes what a settling makes
     pub pass_settles : pass given ids mid ≡ settled given past
-    pass_settles = ap (pass given ids) so_far.1 ∙ (pass_again given so_far.0 ids past batch ∙ (ap (λ l. pass given l past) all ∙ sym (settled_is given past batch)))
+    pass_settles = ap (pass given ids) so_far.1 ∙ (pass_again given so_far.0 ids past paced ∙ (ap (λ l. pass given l past) all ∙ sym (settled_is given past paced)))

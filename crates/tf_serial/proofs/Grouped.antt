@@ -9,7 +9,7 @@ use Rattle.tf_history.specs.Histories.{AllRight}
 use Rattle.tf_history.proofs.EntriesLaw.{entries_are_grouped}
 use Rattle.tf_core.specs.Legal.{IsTakenHistory, read}
 use Rattle.tf_mapping.specs.Documents.{values_of}
-use Rattle.tf_core.proofs.FirstCheckpoint.{read_is_legal}
+use Rattle.tf_core.proofs.Taken.{read_is_legal}
 use Rattle.tf_serial.specs.Script.{IsGrouped}
 use Rattle.tf_serial.proofs.GoingOn.{behind, right_read}
 

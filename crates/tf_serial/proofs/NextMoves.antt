@@ -36,10 +36,11 @@ use Rattle.tf_core.specs.Moves.{kind_of, moment_after, moved}
 use Rattle.tf_core.specs.Texts.{HasTexts, IsPartOf, IsShort, IsShortKind, IsShortPut, IsShortRow}
 use Rattle.tf_mapping.specs.Documents.{values_of}
 use Rattle.tf_core.proofs.BuiltPast.{built_past}
-use Rattle.tf_core.proofs.FirstCheckpoint.{once, read_is_legal, unbounded}
-use Rattle.tf_core.proofs.Fitting.{form_of, put_in_range}
+use Rattle.tf_core.proofs.Taken.{read_is_legal}
+use Rattle.tf_core.proofs.Fitting.{put_in_range}
 use Rattle.tf_store.specs.Standing.{AreSpelled}
 use Rattle.tf_serial.specs.Moves.{next_move}
+use Rattle.tf_serial.specs.Numbers.{HasNumbers}
 use Rattle.tf_serial.specs.Parts.{IsNext, IsRightEntry}
 use Rattle.tf_serial.proofs.OwnMoves.{IsOwnMove, begins, pages, finishes, fails, stops, deed_back, own_move}
 use Rattle.tf_serial.proofs.SpelledPasts.{IsSpelledPut, puts_are_spelled, texts_are_short}
@@ -74,25 +75,8 @@ module _ (past : List Entry) (taken : IsTakenPast past) (id : List ℕ) (l : Lif
   built : IsBuiltPut (catalogue past) put_is.put
   built = (found_has (IsBuiltPut (catalogue past)) id (transforms past) put_is.put (built_past past taken).each_put put_is.there).0
 
-  pub is_batch : l.meaning.is_batch ≡ true
-  is_batch = sym (ap (λ m. m.is_batch) put_is.means) ∙ ap is_none (form_of put_is.put.config built.form).batch
-
   pub has_rows : 0 < l.meaning.page_size
   has_rows = let sized = (put_in_range (catalogue past) put_is.put built).page_size in omega (arith, ap (λ m. m.page_size) put_is.means, sized.0)
-
-  few_begun : length l.checkpoints ≤ 1
-  few_begun = (once past id l taken is is_batch).0
-
-  -- the numbers of checkpoints
-  begin_fits : (n : ℕ) (bound : Option ℤ) (moment : ℤ) → MayBegin l (documents (read past)) n bound moment → (n < 2 ^ 64) × (bound ≡ None)
-  begin_fits n bound moment m =
-      let idle : l.finished ≡ length l.checkpoints = m.idle in (
-        omega (arith, m.number, idle, few_begun),
-        m.bound_is ∙ unbounded l.meaning (last_bound l.checkpoints) moment is_batch,
-      )
-
-  running_fits : (n : ℕ) → legality.IsRunning l n → n < 2 ^ 64
-  running_fits n r = omega (arith, r.1, few_begun)
 
 -- ---- rows
 wide : (n : ℤ) → IsBetween (negsuc 9223372036854775807) (pos 9223372036854775807) n → FitsSigned w128 n
@@ -181,30 +165,29 @@ module _ (past : List Entry) (taken : IsTakenPast past) (spelled : AllByRecursio
       let own = found_has IsSpelledPut id (transforms past) put.put spelled put.there in
       subst IsShort (sym own.1) own.0.0
 
-  kind_fits : (moment : ℤ) {id : List ℕ} {deed : Deed} {k : Kind} → IsOwnMove id deed k → is_built k ≡ true → IsAllowed moment (deed_of values_of (catalogue past) k) (read past) → IsShortKind k → FitsKind First k
-  kind_fits moment {id} stops built allowed short =
+  kind_fits : (moment : ℤ) {id : List ℕ} {deed : Deed} {k : Kind} → IsOwnMove id deed k → HasNumbers k → IsAllowed moment (deed_of values_of (catalogue past) k) (read past) → IsShortKind k → FitsKind First k
+  kind_fits moment {id} stops numbers allowed short =
       let h = life_there (λ l. legality.may_stop l.state l ≡ true) (life id (read past)) allowed in
       id_fits id h.found h.is
-  kind_fits moment {id} (begins n bound) built allowed short =
+  kind_fits moment {id} (begins n bound) numbers allowed short =
       let h = life_there (λ l. MayBegin l (documents (read past)) n bound moment) (life id (read past)) allowed in
-      let fits = begin_fits past taken id h.found h.is n bound moment h.holds in
-      (id_fits id h.found h.is, fits.0, subst (λ b. IfSome b (FitsSigned w64)) (sym fits.1) tt)
-  kind_fits moment {id} (pages n rows) built allowed short =
+      (id_fits id h.found h.is, numbers.0, numbers.1)
+  kind_fits moment {id} (pages n rows) numbers allowed short =
       let h = life_there (λ l. MayPage l n rows) (life id (read past)) allowed in
-      (id_fits id h.found h.is, running_fits past taken id h.found h.is n h.holds.running, (omega (arith, short.0), rows_fit rows short.1))
-  kind_fits moment {id} (finishes n) built allowed short =
+      (id_fits id h.found h.is, numbers, (omega (arith, short.0), rows_fit rows short.1))
+  kind_fits moment {id} (finishes n) numbers allowed short =
       let h = life_there (λ l. MayFinish l n) (life id (read past)) allowed in
-      (id_fits id h.found h.is, running_fits past taken id h.found h.is n h.holds.running)
-  kind_fits moment {id} (fails n key name value) built allowed short =
+      (id_fits id h.found h.is, numbers)
+  kind_fits moment {id} (fails n key name value) numbers allowed short =
       let h = life_there (λ l. MayFail l n key name value) (life id (read past)) allowed in
-      (id_fits id h.found h.is, running_fits past taken id h.found h.is n h.holds.running, (short.0, parts_fit key.parts short.1), short.2, sum_fits value short.3)
+      (id_fits id h.found h.is, numbers, (short.0, parts_fit key.parts short.1), short.2, sum_fits value short.3)
 
-  entry_fits : (given : ℤ) (id : List ℕ) (e : Entry) → IsMoveOf given past id e → IsTaken past e → IsShortKind e.kind → FitsEntry First e
+  entry_fits : (given : ℤ) (id : List ℕ) (e : Entry) → IsMoveOf given past id e → IsTaken past e → HasNumbers e.kind → IsShortKind e.kind → FitsEntry First e
   unfolding reading
-  entry_fits given id e m t short = record {
+  entry_fits given id e m t numbers short = record {
     at_ms = span_fits e.at_ms t.legal.moment;
     actor = omega (arith, t.legal.actor);
-    kind = kind_fits e.at_ms m.own t.built t.legal.allowed short;
+    kind = kind_fits e.at_ms m.own numbers t.legal.allowed short;
   }
 
   sized : (id : List ℕ) → IfSome (life id (read past)) (λ l. 0 < l.meaning.page_size)
@@ -219,17 +202,17 @@ module _ (past : List Entry) (taken : IsTakenPast past) (spelled : AllByRecursio
       subst (λ d. IsRightEvent d (read past)) (sym (deed_back (catalogue past) m.own))
       (moves_are_legal (read past) id (moment_after past given) m.deed (read_is_legal past taken) (sized id) m.next).1
 
-  next_known : (given : ℤ) (id : List ℕ) (o : Option Entry) → o ≡ next_move given id past → IfSome o (IsTaken past) → IfSome o (λ (e : Entry). IsShortKind e.kind) → IfSome o (IsNext past)
-  next_known given id None is t short = tt
-  next_known given id (Some e) is t short = let m = move_is given past id e (sym is) in record { taken = t; fits = entry_fits given id e m t short; right = entry_right given id e m }
+  next_known : (given : ℤ) (id : List ℕ) (o : Option Entry) → o ≡ next_move given id past → IfSome o (IsTaken past) → IfSome o (λ (e : Entry). HasNumbers e.kind) → IfSome o (λ (e : Entry). IsShortKind e.kind) → IfSome o (IsNext past)
+  next_known given id None is t numbers short = tt
+  next_known given id (Some e) is t numbers short = let m = move_is given past id e (sym is) in record { taken = t; fits = entry_fits given id e m t numbers short; right = entry_right given id e m }
 
 configs_short : (puts : List PutTransform) → AllByRecursion IsSpelledPut puts → AllByRecursion IsShortPut puts
 configs_short [] all = tt
 configs_short (p ∷ puts) all = (all.0.1, configs_short puts all.1)
 
 -- the entry of the next move is taken, has a spelling and is right
-pub move_is_next : (given : ℤ) (history : List Entry) (id : List ℕ) (o : Option Entry) → IsTakenHistory history → AreSpelled history → o ≡ next_move given id (reverse history) → IfSome o (IsTaken (reverse history))
+pub move_is_next : (given : ℤ) (history : List Entry) (id : List ℕ) (o : Option Entry) → IsTakenHistory history → AreSpelled history → o ≡ next_move given id (reverse history) → IfSome o (IsTaken (reverse history)) → IfSome o (λ (e : Entry). HasNumbers e.kind)
     → (AllByRecursion (HasTexts IsShort) (documents (read (reverse history))) → AllByRecursion IsShortPut (transforms (reverse history)) → IfSome o (λ (e : Entry). IsShortKind e.kind)) → IfSome o (IsNext (reverse history))
-move_is_next given history id o taken spelled is t short =
+move_is_next given history id o taken spelled is t numbers short =
     let puts = puts_are_spelled history spelled in
-    next_known (reverse history) taken puts given id o is t (short (texts_are_short history spelled) (configs_short (transforms (reverse history)) puts))
+    next_known (reverse history) taken puts given id o is t numbers (short (texts_are_short history spelled) (configs_short (transforms (reverse history)) puts))

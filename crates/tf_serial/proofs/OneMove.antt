@@ -1,5 +1,5 @@
--- What one move leaves: the moment, the documents, the transforms and the lives of the others; and of its own transform, where
--- that is batch, fewer moves.
+-- What one move leaves: the moment, the documents, the transforms and the lives of the others; and of its own transform fewer
+-- moves.
 use Rattle.std.proofs.Common.{◌≡◌, ℕ, ◌+◌, ◌<◌, ℤ, Bool, true, false, List, [], ◌∷◌, ◌++◌, Option, Some, None, refl, sym, ap, ◌∙◌, subst, arith}
 use Rattle.std.specs.Option.{option_and_then, option_map}
 use Rattle.std.specs.Prelude.{◌≤ℤ◌, ◌&&◌, int_le, IfSome, IsSomeAnd, if◌then◌else◌, length}
@@ -12,35 +12,38 @@ use Rattle.tf_model.specs.declared.entry.Entry.{Entry}
 use Rattle.tf_history.specs.Catalogue.{catalogue}
 use Rattle.tf_history.specs.Events.{Deed, Event}
 use Rattle.tf_history.specs.Events.Deed.{Stopped}
-use Rattle.tf_history.specs.Legality.{IsAllowed, IsNotBefore, begin_move, failing, is_active, is_due, is_started, may_stop, move_of, batch_moves_left, next_checkpoint, next_page, page_move, to_do}
+use Rattle.tf_history.specs.Legality.{IsAllowed, IsNotBefore, begin_move, failing, is_active, is_due, is_started, may_stop, move_of, moves_left, next_checkpoint, next_page, page_move, to_do}
 use Rattle.tf_history.specs.Legality as legality
 use Rattle.tf_history.specs.Lives.{Life, act, changed, documents, is_running, is_same, life, life_after, writes}
 use Rattle.tf_history.specs.Lives.Act.{Aside}
 use Rattle.tf_history.specs.Reading.{event_of}
 use Rattle.tf_history.specs.Transforms.{transforms}
-use Rattle.tf_history.proofs.EndsLaw.{batch_moves_end}
+use Rattle.tf_history.proofs.EndsLaw.{moves_end}
 use Rattle.tf_history.proofs.MovesLaw.{moves_are_legal}
 use Rattle.tf_core.specs.Legal.{IsTakenPast, read}
 use Rattle.tf_core.specs.Moves.{clamped, kind_of, last_ms_in, later, moment_after, moved}
-use Rattle.tf_core.proofs.FirstCheckpoint.{read_is_legal}
+use Rattle.tf_core.proofs.Taken.{read_is_legal}
 use Rattle.tf_core.proofs.Truths.{int_at_most}
 use Rattle.tf_mapping.specs.Documents.{values_of}
 use Rattle.tf_serial.specs.Moves.{left_by, left_in, next_move}
-use Rattle.tf_serial.specs.Settling.{AreBatch}
-use Rattle.tf_serial.proofs.NextMoves.{IsMoveOf, has_rows, is_batch, move_is}
+use Rattle.tf_serial.specs.Settling.{ArePaced}
+use Rattle.tf_serial.proofs.NextMoves.{IsMoveOf, has_rows, move_is}
 use Rattle.tf_serial.proofs.OwnMoves.{aside, deed_back, leaves_transforms, writes_none}
 
--- Of a past that a core takes each transform is batch: the one place that says so.
-pub taken_is_batch : (past : List Entry) → IsTakenPast past → AreBatch past
-taken_is_batch past taken = record { legal = read_is_legal past taken; each = λ id l there. (is_batch past taken id l there, has_rows past taken id l there) }
+-- of a past that a core takes each transform has Pages with a row
+pub taken_is_paced : (past : List Entry) → IsTakenPast past → ArePaced past
+taken_is_paced past taken = record { legal = read_is_legal past taken; each = λ id l there. has_rows past taken id l there }
 
 -- ---- where none is left
-none_by : (stop begin index : Bool) (begun paged : ℕ) (a b : Deed) (o : Option Deed) → (if stop then 1 else if begin then begun + 3 else if index then paged + 2 else 0) ≡ 0
-    → (if stop then Some a else if begin then Some b else if index then o else None) ≡ None
-none_by true begin index begun paged a b o e = absurd (omega (arith, e))
-none_by false true index begun paged a b o e = absurd (let none : begun + 3 ≡ 0 = e in omega (arith, none))
-none_by false false true begun paged a b o e = absurd (let none : paged + 2 ≡ 0 = e in omega (arith, none))
-none_by false false false begun paged a b o e = refl
+none_by : (stop started due index : Bool) (keys paged : ℕ) (a b : Deed) (o : Option Deed)
+    → (if stop then 1 else if index then paged + 2 + (if due then keys + 3 else 0) else if started then (if due then keys + 3 else 0) else 0) ≡ 0
+    → (if stop then Some a else if started && due then Some b else if index then o else None) ≡ None
+none_by true started due index keys paged a b o e = absurd (omega (arith, e))
+none_by false started true true keys paged a b o e = absurd (let none : paged + 2 + (keys + 3) ≡ 0 = e in omega (arith, none))
+none_by false started false true keys paged a b o e = absurd (let none : paged + 2 + 0 ≡ 0 = e in omega (arith, none))
+none_by false true true false keys paged a b o e = absurd (let none : keys + 3 ≡ 0 = e in omega (arith, none))
+none_by false true false false keys paged a b o e = refl
+none_by false false due false keys paged a b o e = refl
 
 -- where no move is left there is none
 pub none_left : (given : ℤ) (id : List ℕ) (past : List Entry) → left_in given id past ≡ 0 → next_move given id past ≡ None
@@ -50,7 +53,7 @@ none_left given id past e = ap (λ o. option_map (moved (moment_after past given
     by None is e = ap (option_and_then (λ l. move_of id l (documents (read past)) (moment_after past given))) is
     by (Some l) is e =
         ap (option_and_then (λ l. move_of id l (documents (read past)) (moment_after past given))) is
-        ∙ none_by (may_stop l.state l) (is_started l.state && is_due l (documents (read past)) (moment_after past given)) (is_running l && is_active l.state)
+        ∙ none_by (may_stop l.state l) (is_started l.state) (is_due l (documents (read past)) (moment_after past given)) (is_running l && is_active l.state)
         (length (changed l.meaning (next_checkpoint l (documents (read past)) (moment_after past given) ∷ l.checkpoints))) (length (to_do l))
         (Stopped id) (begin_move id l (moment_after past given)) (page_move id l (failing l) (next_page l)) e
 
@@ -117,10 +120,10 @@ module _ (given : ℤ) (id : List ℕ) (past : List Entry) (e : Entry) (is : nex
       by true same = absurd (let none : ◌≡◌ {A = Option Entry} None (Some e) = sym idle ∙ (ap (λ t. next_move given t past) ((bytes_eq-Decides t id).0 same) ∙ is) in cc)
       by false other = same_move t other ∙ idle
 
-  -- ---- its own transform, where each is batch
-  module _ (batch : AreBatch past) where
+  -- ---- its own transform
+  module _ (paced : ArePaced past) where
     abbrev Lived : Life → Life → Type 0
-    Lived l now = (now.meaning ≡ l.meaning) × ((docs : List Doc) → batch_moves_left now docs moment < batch_moves_left l (documents (read past)) moment)
+    Lived l now = (now.meaning ≡ l.meaning) × (moves_left now (documents (read (e ∷ past))) moment < moves_left l (documents (read past)) moment)
 
     pub record Own : Type 0 where
       pub was : Life
@@ -132,44 +135,40 @@ module _ (given : ℤ) (id : List ℕ) (past : List Entry) (e : Entry) (is : nex
       where
         by : (o : Option Life) → life id (read past) ≡ o → Own
         by None there = absurd (let none : ◌≡◌ {A = Option Deed} None (Some made.deed) = sym (ap (option_and_then (λ l. move_of id l (documents (read past)) moment)) there) ∙ made.next in cc)
-        by (Some l) there =
-            let known = batch.each id l there in
-            record {
-              was = l;
-              there = there;
-              lives = subst (λ (v : Event). IsSomeAnd (life id (v ∷ read past)) (Lived l)) (sym same_event) (batch_moves_end (read past) id moment made.deed l batch.legal there known.0 known.1 made.next);
-            }
+        by (Some l) there = record {
+          was = l;
+          there = there;
+          lives = subst (λ (v : Event). IsSomeAnd (life id (v ∷ read past)) (λ now. (now.meaning ≡ l.meaning) × (moves_left now (documents (v ∷ read past)) moment < moves_left l (documents (read past)) moment))) (sym same_event)
+              (moves_end (read past) id (record { moment = moment; deed = made.deed }) l paced.legal there (paced.each id l there) made.next);
+        }
 
-    fewer_by : (l : Life) (o : Option Life) (docs : List Doc) → IsSomeAnd o (Lived l) → left_by o docs moment < left_by (Some l) (documents (read past)) moment
-    fewer_by l None docs h = absurd h
-    fewer_by l (Some now) docs h = h.1 docs
+    fewer_by : (l : Life) (o : Option Life) → IsSomeAnd o (Lived l) → left_by o (documents (read (e ∷ past))) moment < left_by (Some l) (documents (read past)) moment
+    fewer_by l None h = absurd h
+    fewer_by l (Some now) h = h.1
 
     -- it has fewer moves left
     pub fewer_left : left_in given id (e ∷ past) < left_in given id past
     fewer_left =
         subst (λ (p : ℤ × Option Life). left_by (life id (read (e ∷ past))) (documents (read (e ∷ past))) p.0 < left_by p.1 (documents (read past)) moment) (λ i. (sym same_moment i, sym own.there i))
-        (fewer_by own.was (life id (read (e ∷ past))) (documents (read (e ∷ past))) own.lives)
+        (fewer_by own.was (life id (read (e ∷ past))) own.lives)
 
-    abbrev IsBatch : Life → Type 0
-    IsBatch l = (l.meaning.is_batch ≡ true) × (0 < l.meaning.page_size)
-
-    own_batch : (o : Option Life) (l : Life) → IsSomeAnd o (Lived own.was) → o ≡ Some l → IsBatch l
-    own_batch None l lives there = absurd lives
-    own_batch (Some now) l lives there =
+    own_paced : (o : Option Life) (l : Life) → IsSomeAnd o (Lived own.was) → o ≡ Some l → 0 < l.meaning.page_size
+    own_paced None l lives there = absurd lives
+    own_paced (Some now) l lives there =
         let same : own.was.meaning ≡ l.meaning = sym lives.0 ∙ ap (λ (l : Life). l.meaning) (same_Some now l there) in
-        subst (λ m. (m.is_batch ≡ true) × (0 < m.page_size)) same (batch.each id own.was own.there)
+        subst (λ m. 0 < m.page_size) same (paced.each id own.was own.there)
 
-    each_batch : (t : List ℕ) (l : Life) → life t (read (e ∷ past)) ≡ Some l → IsBatch l
-    each_batch t l there = by (is_same t id) refl
+    each_paced : (t : List ℕ) (l : Life) → life t (read (e ∷ past)) ≡ Some l → 0 < l.meaning.page_size
+    each_paced t l there = by (is_same t id) refl
       where
-        by : (b : Bool) → is_same t id ≡ b → IsBatch l
-        by true same = own_batch (life id (read (e ∷ past))) l own.lives (ap (λ t. life t (read (e ∷ past))) (sym ((bytes_eq-Decides t id).0 same)) ∙ there)
-        by false other = batch.each t l (sym (same_life t other) ∙ there)
+        by : (b : Bool) → is_same t id ≡ b → 0 < l.meaning.page_size
+        by true same = own_paced (life id (read (e ∷ past))) l own.lives (ap (λ t. life t (read (e ∷ past))) (sym ((bytes_eq-Decides t id).0 same)) ∙ there)
+        by false other = paced.each t l (sym (same_life t other) ∙ there)
 
-    -- each transform is batch still
-    pub still_batch : AreBatch (e ∷ past)
-    still_batch =
-        let sized = subst (λ (o : Option Life). IfSome o (λ l. 0 < l.meaning.page_size)) (sym own.there) (batch.each id own.was own.there).1 in
-        let allowed = (moves_are_legal (read past) id moment made.deed batch.legal sized made.next).0 in
+    -- each transform has Pages with a row still
+    pub still_paced : ArePaced (e ∷ past)
+    still_paced =
+        let sized = subst (λ (o : Option Life). IfSome o (λ l. 0 < l.meaning.page_size)) (sym own.there) (paced.each id own.was own.there) in
+        let allowed = (moves_are_legal (read past) id moment made.deed paced.legal sized made.next).0 in
         let here = subst (λ (v : Event). IsAllowed v.moment v.deed (read past) × IsNotBefore v.moment (read past)) (sym same_event) (allowed, not_before given past) in
-        record { legal = (batch.legal, here.0, here.1); each = each_batch }
+        record { legal = (paced.legal, here.0, here.1); each = each_paced }

@@ -10,7 +10,7 @@ use Rattle.tf_command.specs.Lines.{is_blank}
 use Rattle.tf_command.specs.declared.command.Parts.{Parts}
 use Rattle.tf_command.specs.declared.command.LineError.{LineError}
 use Rattle.tf_serial.specs.Moves.{next_move, moves, pass, settled}
-use Rattle.tf_decide.specs.Replying.{is_settle}
+use Rattle.tf_serial.specs.Following.{Following, Nothing, Step, Settling, followed, following}
 use Rattle.tf_serial.specs.Script.{after, after_command, after_line, after_reading, asked, given}
 use Rattle.tf_serial.proofs.MoveByMove.{moves_keep, moves_on, pass_keeps, settling_keeps}
 
@@ -76,14 +76,15 @@ settled_goes_on given history = history_begins history (reverse (settled given (
 pub entries_go_on : (history entries : List Entry) → reverse (reverse entries ++ reverse history) ≡ history ++ entries
 entries_go_on history entries = reverse-append (reverse entries) (reverse history) ∙ (λ i. reverse-reverse history i ++ reverse-reverse entries i)
 
-command_by : (past now : List Entry) (given : ℤ) (b : Bool) → IsPrefix (reverse past) (reverse now) → IsPrefix (reverse past) (reverse (if b then settled given now else now))
-command_by past now given true p = prefix_through (reverse past) (reverse now) (reverse (settled given now)) p (settling_begins given now)
-command_by past now given false p = p
+pub moves_follow : (past now : List Entry) (given : ℤ) (f : Following) → IsPrefix (reverse past) (reverse now) → IsPrefix (reverse past) (reverse (followed given f now))
+moves_follow past now given Nothing p = p
+moves_follow past now given (Step id) p = prefix_through (reverse past) (reverse now) (reverse (moves given 1 id now)) p (moves_begin given now 1 id)
+moves_follow past now given Settling p = prefix_through (reverse past) (reverse now) (reverse (settled given now)) p (settling_begins given now)
 
 command_begins : (past : List Entry) (command : Parts) → IsPrefix (reverse past) (reverse (after_command past command))
 command_begins past command =
     let es : List Entry = (asked past command).entries in
-    command_by past (reverse es ++ past) (given past command) (is_settle command.op) (es, sym (reverse-append (reverse es) past ∙ ap (λ l. reverse past ++ l) (reverse-reverse es)))
+    moves_follow past (reverse es ++ past) (given past command) (following (asked past command).answer command.op) (es, sym (reverse-append (reverse es) past ∙ ap (λ l. reverse past ++ l) (reverse-reverse es)))
 
 reading_begins : (past : List Entry) (r : Result Parts LineError) → IsPrefix (reverse past) (reverse (after_reading past r))
 reading_begins past (Ok command) = command_begins past command

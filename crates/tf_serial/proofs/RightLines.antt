@@ -188,6 +188,16 @@ module _ (past : List Entry) (actor : ℕ) (given : ℤ) where
       let found = find (is_into name) (transforms past) in
       either AreQuiet (decide.may_be_searched past name) (decide.search_in past name size o found) (decide.refuses (refusal.BadName name)) (search_in_quiet name size o found) tt
 
+-- ---- steps
+step_of_quiet : (id : List ℕ) (there : Bool) → AreQuiet (decide.step_of id there)
+step_of_quiet id true = tt
+step_of_quiet id false = tt
+
+step_quiet : (past : List Entry) (id : List ℕ) → AreQuiet (decide.asked_step past id)
+step_quiet past id =
+    let there = is_some (transform_of id past) in
+    either AreQuiet (is_transform_id id) (decide.step_of id there) (decide.refuses (refusal.BadName id)) (step_of_quiet id there) tt
+
 -- ---- commands
 pub asked_quiet : (past : List Entry) (actor : ℕ) (given : ℤ) (o : Op) → AreQuiet (decide.asked past actor given o)
 asked_quiet past actor given (op.CreateIndex name tree shards stamp quick) = create_quiet past actor given name tree shards stamp
@@ -205,7 +215,7 @@ asked_quiet past actor given (op.Delete id) = tt
 asked_quiet past actor given (op.Stop id wait force) = tt
 asked_quiet past actor given (op.Reset id) = tt
 asked_quiet past actor given (op.ScheduleNow id) = tt
-asked_quiet past actor given (op.Step id) = tt
+asked_quiet past actor given (op.Step id) = step_quiet past id
 asked_quiet past actor given (op.Await id checkpoint) = tt
 asked_quiet past actor given (op.Stats id) = tt
 asked_quiet past actor given (op.Preview config) = tt

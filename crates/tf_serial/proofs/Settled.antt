@@ -17,11 +17,11 @@ use Rattle.tf_core.specs.Legal.{read}
 use Rattle.tf_core.specs.Listing.{ascending, ids_after}
 use Rattle.tf_core.proofs.Truths.{both, none_of}
 use Rattle.tf_serial.specs.Moves.{IsSettled, left_in, moved_out, next_move, pass, settled}
-use Rattle.tf_serial.specs.Settling.{AreBatch, IsPass, Settles, SettlingsFollowTheRule, again, still}
+use Rattle.tf_serial.specs.Settling.{ArePaced, IsPass, Settles, SettlingsFollowTheRule, again, still}
 use Rattle.tf_serial.proofs.MoveByMove.{settling_keeps}
 use Rattle.tf_serial.proofs.NextMoves.{found_has, put_of_life}
-use Rattle.tf_serial.proofs.OneMove.{no_life, same_transforms, taken_is_batch}
-use Rattle.tf_serial.proofs.Passes.{AreIdle, idle_pass, moved_out_idle, moves_batch, pass_batch, pass_idle, pass_twice, settled_is}
+use Rattle.tf_serial.proofs.OneMove.{no_life, same_transforms, taken_is_paced}
+use Rattle.tf_serial.proofs.Passes.{AreIdle, idle_pass, moved_out_idle, moves_paced, pass_paced, pass_idle, pass_twice, settled_is}
 use Rattle.tf_serial.proofs.Prefixes.{pass_begins}
 
 -- ---- all transforms
@@ -68,9 +68,9 @@ same_ids given past =
     ap (λ ts. ascending (map (λ (p : PutTransform). p.id) ts)) (settling_keeps given (λ now. transforms now ≡ transforms past) (λ id now e is same. same_transforms given id now e is ∙ same) past refl)
 
 -- and no move of theirs
-pub settled_ends : (given : ℤ) (past : List Entry) → AreBatch past → IsSettled given (settled given past)
-settled_ends given past batch =
-    let idle = subst (AreIdle given (ids_after past)) (sym (settled_is given past batch)) (pass_idle given (ids_after past) past batch) in
+pub settled_ends : (given : ℤ) (past : List Entry) → ArePaced past → IsSettled given (settled given past)
+settled_ends given past paced =
+    let idle = subst (AreIdle given (ids_after past)) (sym (settled_is given past paced)) (pass_idle given (ids_after past) past paced) in
     idle_settled given (settled given past) (subst (λ ids. AreIdle given ids (settled given past)) (sym (same_ids given past)) idle)
 
 -- ---- passes
@@ -100,39 +100,39 @@ idle_all given [] past idle = refl
 idle_all given (id ∷ ids) past idle = ap (λ o. is_none o && list_all (λ id. is_none (next_move given id past)) ids) idle.0 ∙ idle_all given ids past idle.1
 
 -- one that moves something is the last that does
-fewer : (given : ℤ) (ids : List (List ℕ)) (past : List Entry) → AreBatch past → length (pass given ids past) ≢ length past → to_pass given ids (pass given ids past) < to_pass given ids past
-fewer given ids past batch moved = by (list_all (λ id. is_none (next_move given id past)) ids) refl
+fewer : (given : ℤ) (ids : List (List ℕ)) (past : List Entry) → ArePaced past → length (pass given ids past) ≢ length past → to_pass given ids (pass given ids past) < to_pass given ids past
+fewer given ids past paced moved = by (list_all (λ id. is_none (next_move given id past)) ids) refl
   where
     none : to_pass given ids (pass given ids past) ≡ 0
-    none = ap (λ b. cond b 0 1) (idle_all given ids (pass given ids past) (pass_idle given ids past batch))
+    none = ap (λ b. cond b 0 1) (idle_all given ids (pass given ids past) (pass_idle given ids past paced))
 
     by : (b : Bool) → list_all (λ id. is_none (next_move given id past)) ids ≡ b → to_pass given ids (pass given ids past) < cond b 0 1
     by true e = absurd (moved (ap length (idle_pass given ids past (all_idle given ids past e))))
     by false e = omega (arith, none)
 
-pub fewer_to_pass : (given : ℤ) (ids : List (List ℕ)) (past now : List Entry) → AreBatch past → now ≡ pass given ids past → length now ≢ length past → to_pass given ids now < to_pass given ids past
-fewer_to_pass given ids past now batch made moved = subst (λ p. to_pass given ids p < to_pass given ids past) (sym made) (fewer given ids past batch (λ same. moved (ap length made ∙ same)))
+pub fewer_to_pass : (given : ℤ) (ids : List (List ℕ)) (past now : List Entry) → ArePaced past → now ≡ pass given ids past → length now ≢ length past → to_pass given ids now < to_pass given ids past
+fewer_to_pass given ids past now paced made moved = subst (λ p. to_pass given ids p < to_pass given ids past) (sym made) (fewer given ids past paced (λ same. moved (ap length made ∙ same)))
 
 -- ---- the rule
-is_pass : (given : ℤ) (ids : List (List ℕ)) (past : List Entry) → AreBatch past → IsPass given ids past (pass given ids past)
-is_pass given [] past batch = refl
-is_pass given (id ∷ ids) past batch =
+is_pass : (given : ℤ) (ids : List (List ℕ)) (past : List Entry) → ArePaced past → IsPass given ids past (pass given ids past)
+is_pass given [] past paced = refl
+is_pass given (id ∷ ids) past paced =
     let mid = moved_out given id past in
-    (mid, record { made = left_in given id past; moved = refl; idle = moved_out_idle given id past batch }, is_pass given ids mid (moves_batch given (left_in given id past) id past batch))
+    (mid, record { made = left_in given id past; moved = refl; idle = moved_out_idle given id past paced }, is_pass given ids mid (moves_paced given (left_in given id past) id past paced))
 
-pass_settles : (given : ℤ) (ids : List (List ℕ)) (past : List Entry) → AreBatch past → Settles given ids past (pass given ids past)
-pass_settles given ids past batch =
+pass_settles : (given : ℤ) (ids : List (List ℕ)) (past : List Entry) → ArePaced past → Settles given ids past (pass given ids past)
+pass_settles given ids past paced =
     let now = pass given ids past in
     elim (cases_lt (length past) (length now)) [
       | inl more ↦
-          again past now now (is_pass given ids past batch) (λ same. omega (arith, more, ap length same))
-          (still now (subst (IsPass given ids now) (pass_twice given ids past batch) (is_pass given ids now (pass_batch given ids past batch))))
+          again past now now (is_pass given ids past paced) (λ same. omega (arith, more, ap length same))
+          (still now (subst (IsPass given ids now) (pass_twice given ids past paced) (is_pass given ids now (pass_paced given ids past paced))))
       | inr none ↦
           let same : now ≡ past = pass_still given ids past none in
-          subst (Settles given ids past) (sym same) (still past (subst (IsPass given ids past) same (is_pass given ids past batch)))
+          subst (Settles given ids past) (sym same) (still past (subst (IsPass given ids past) same (is_pass given ids past paced)))
     ]
 
 pub settlings_follow_the_rule : SettlingsFollowTheRule
 settlings_follow_the_rule given past taken =
-    let batch = taken_is_batch past taken in
-    (subst (Settles given (ids_after past) past) (sym (settled_is given past batch)) (pass_settles given (ids_after past) past batch), settled_ends given past batch)
+    let paced = taken_is_paced past taken in
+    (subst (Settles given (ids_after past) past) (sym (settled_is given past paced)) (pass_settles given (ids_after past) past paced), settled_ends given past paced)

@@ -7,7 +7,7 @@ use Rattle.tf_command.specs.declared.command.Parts.{Parts}
 use Rattle.tf_command.specs.declared.command.LineError.{LineError}
 use Rattle.tf_core.specs.Listing.{ids_after}
 use Rattle.tf_serial.specs.Moves.{moves, next_move, pass, passes}
-use Rattle.tf_decide.specs.Replying.{is_settle}
+use Rattle.tf_serial.specs.Following.{Following, Nothing, Step, Settling, following}
 use Rattle.tf_serial.specs.Script.{after_line, asked, given}
 
 -- behind a history, entries come next as one frame
@@ -39,13 +39,22 @@ pub record IsSettling (moment : ℤ) (past left next : List Entry) : Type 0 wher
   pub made : ℕ
   pub move : IsOfPass moment (ids_after past) (passes moment made (ids_after past) past) left next
 
--- what a command makes of a past
-abbrev pub IsOfCommand : Bool → List Entry → Parts → Frames
-IsOfCommand true past command left next = IsSettling (given past command) past left next
-IsOfCommand false past command left next = IsOnly (reverse past) (asked past command).entries left next
+-- moves that follow a command
+abbrev pub IsFollowing : ℤ → Following → List Entry → Frames
+IsFollowing moment Nothing past left next = ⊥
+IsFollowing moment (Step id) past left next = IsMove moment id past left next
+IsFollowing moment Settling past left next = IsSettling moment past left next
+
+-- what a command makes of a past: its entries where no move follows, else the moves
+abbrev pub IsOfCommandBy : Following → List Entry → Parts → Frames
+IsOfCommandBy Nothing past command left next = IsOnly (reverse past) (asked past command).entries left next
+IsOfCommandBy f past command left next = IsFollowing (given past command) f past left next
+
+abbrev pub IsOfCommand : List Entry → Parts → Frames
+IsOfCommand past command left next = IsOfCommandBy (following (asked past command).answer command.op) past command left next
 
 abbrev pub IsOfReading : List Entry → Result Parts LineError → Frames
-IsOfReading past (Ok command) left next = IsOfCommand (is_settle command.op) past command left next
+IsOfReading past (Ok command) left next = IsOfCommand past command left next
 IsOfReading past (Err error) left next = ⊥
 
 -- what the line with a number makes of a past

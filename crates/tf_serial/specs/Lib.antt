@@ -1,4 +1,6 @@
 pub mod Moves
+pub mod Following
+pub mod Numbers
 pub mod Script
 pub mod Frames
 pub mod Parts

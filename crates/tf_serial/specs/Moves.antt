@@ -3,7 +3,7 @@ use Rattle.std.specs.Prelude.{◌≡◌, ℕ, ℤ, zero, suc, ◌+◌, List, [],
 use Rattle.std.specs.Option.{option_map}
 use Rattle.tf_model.specs.declared.doc.Doc.{Doc}
 use Rattle.tf_model.specs.declared.entry.Entry.{Entry}
-use Rattle.tf_history.specs.Legality.{batch_moves_left}
+use Rattle.tf_history.specs.Legality.{moves_left}
 use Rattle.tf_history.specs.Lives.{Life, documents, life}
 use Rattle.tf_core.specs.Legal.{read}
 use Rattle.tf_core.specs.Listing.{ids_after}
@@ -25,7 +25,7 @@ moves given (suc n) id past = unwrap_or (option_map (λ e. moves given n id (e �
 
 abbrev pub left_by : Option Life → List Doc → ℤ → ℕ
 left_by None docs moment = 0
-left_by (Some l) docs moment = batch_moves_left l docs moment
+left_by (Some l) docs moment = moves_left l docs moment
 
 -- how many moves of a transform are left at most
 abbrev pub left_in : ℤ → List ℕ → List Entry → ℕ

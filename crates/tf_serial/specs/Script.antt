@@ -18,9 +18,9 @@ use Rattle.tf_core.specs.Moves.{last_ms_in}
 use Rattle.tf_mapping.specs.Documents.{values_of}
 use Rattle.tf_decide.specs.Asking as decide
 use Rattle.tf_decide.specs.Asking.{refusal_or}
-use Rattle.tf_decide.specs.Replying.{is_settle, past_after, replied_after}
+use Rattle.tf_decide.specs.Replying.{past_after, replied_after}
 use Rattle.tf_decide.specs.declared.asked.Asked.{Asked}
-use Rattle.tf_serial.specs.Moves.{settled}
+use Rattle.tf_serial.specs.Following.{followed, following}
 
 -- ---- commands
 -- the moment that a command gives, or that of the newest entry where it gives none
@@ -31,11 +31,9 @@ given past command = unwrap_or command.at_ms (last_ms_in past)
 abbrev pub asked : List Entry → Parts → Asked
 asked past command = decide.asked past 0 (given past command) command.op
 
--- the past after a command: after the entries that it asks for, and after the moves of a settling
+-- the past after a command: after the entries that it asks for, and after the moves that follow it
 abbrev pub after_command : List Entry → Parts → List Entry
-after_command past command =
-    let now = past_after past (asked past command) in
-    if is_settle command.op then settled (given past command) now else now
+after_command past command = let a = asked past command in followed (given past command) (following a.answer command.op) (past_after past a)
 
 -- the reply to a command
 abbrev pub reply_of : List Entry → Parts → Reply
@@ -74,8 +72,9 @@ after past number (line ∷ lines) = after (after_line past number line) (number
 abbrev pub history_after : List Entry → List (List ℕ) → List Entry
 history_after history lines = reverse (after (reverse history) 1 lines)
 
--- Wherever a history, oldest entry first, has a finished transform, its rows are the grouping from scratch of the documents
--- that its checkpoint read.
+-- Wherever a history, oldest entry first, has a finished transform, its rows are the grouping from scratch: of a continuous
+-- one with nothing late that of all documents written into its sources below the last bound, of a batch one that of the
+-- documents that its checkpoint read.
 abbrev pub IsGrouped : List Entry → Type 0
 IsGrouped history = (k : ℕ) (t : List ℕ) (p : PutTransform) (l : Life) → transform_of t (reverse (take k history)) ≡ Some p → life t (entries.read values_of (take k history)) ≡ Some l
     → IsIdle l → 0 < l.finished → IsGroupedBy p l (entries.read values_of (take k history))

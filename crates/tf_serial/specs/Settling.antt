@@ -33,7 +33,7 @@ pub data Settles (given : ℤ) (ids : List (List ℕ)) : List Entry → List Ent
 abbrev pub SettlingsFollowTheRule : Type 0
 SettlingsFollowTheRule = (given : ℤ) (past : List Entry) → IsTakenPast past → Settles given (ids_after past) past (settled given past) × IsSettled given (settled given past)
 
--- each transform of a legal past is batch, and its Pages have rows
-pub record AreBatch (past : List Entry) : Type 0 where
+-- each transform of a legal past has Pages with a row at least
+pub record ArePaced (past : List Entry) : Type 0 where
   pub legal : IsLegal (read past)
-  pub each : (id : List ℕ) (l : Life) → life id (read past) ≡ Some l → (l.meaning.is_batch ≡ true) × (0 < l.meaning.page_size)
+  pub each : (id : List ℕ) (l : Life) → life id (read past) ≡ Some l → 0 < l.meaning.page_size

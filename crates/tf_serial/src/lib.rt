@@ -7,6 +7,7 @@
 mod commanding;
 mod committing;
 mod laws;
+mod numbers;
 mod script;
 mod settling;
 

@@ -1,15 +1,16 @@
-// The moves of a settling at a given moment.
+// The moves of transforms at a given moment.
 ghost use Rattle.std.specs.Prelude.{◌≡◌, ◌∷◌, IfErr, IfOk, IfSome, MatchOption, OnOk, reverse};
 ghost use Rattle.tf_core.specs.Listing.{ids_after};
 ghost use Rattle.tf_indexer.specs.Holding.{IsAt};
 ghost use Rattle.tf_serial.specs.Frames.{IsMove, IsOfPass, IsSettling};
 ghost use Rattle.tf_serial.specs.Moves.{IsSettled, moved_out, moves, next_move, pass, settled};
 ghost use Rattle.tf_serial.specs.Parts.{Fits, IsNext, Runs, Stops};
-ghost use Rattle.tf_serial.specs.Settling.{AreBatch, IsAdvanced};
+ghost use Rattle.tf_serial.specs.Settling.{ArePaced, IsAdvanced};
 ghost use Rattle.tf_store.specs.Standing.{AreSpelled};
 ghost use Rattle.tf_store.specs.Words.{broken_at, history_of};
 
 use crate::committing::commit_entry;
+use crate::numbers::numbers_fit;
 use std::alloc::Global;
 use tf_core::Core;
 use tf_disk::Disk;
@@ -41,7 +42,7 @@ fn make_passes<D: Disk>(
     ids: &List<Text>,
     moment: i64,
 ) -> Result<(), StoreError>
-    requires batch { AreBatch (reverse (history_of store.old)) }
+    requires paced { ArePaced (reverse (history_of store.old)) }
     requires ids { ids.now ≡ ids_after (reverse (history_of store.old)) }
     ensures after { OnOk result (reverse (history_of store.new) ≡ settled moment (reverse (history_of store.old))) }
     ensures ends { OnOk result (IsSettled moment (reverse (history_of store.new))) }
@@ -69,7 +70,7 @@ fn make_pass<D: Disk>(
     ids: &List<Text>,
     moment: i64,
 ) -> Result<(), StoreError>
-    requires batch { AreBatch (reverse (history_of store.old)) }
+    requires paced { ArePaced (reverse (history_of store.old)) }
     ensures after { OnOk result (reverse (history_of store.new) ≡ pass moment ids.now (reverse (history_of store.old))) }
     ensures broken { OnOk result (broken_at store.new ≡ broken_at store.old) }
     ensures within { OnOk result (Fits store.old store.new) }
@@ -92,7 +93,7 @@ fn make_moves<D: Disk>(
     id: &Text,
     moment: i64,
 ) -> Result<(), StoreError>
-    requires batch { AreBatch (reverse (history_of store.old)) }
+    requires paced { ArePaced (reverse (history_of store.old)) }
     ensures after { OnOk result (reverse (history_of store.new) ≡ moved_out moment id.now (reverse (history_of store.old))) }
     ensures broken { OnOk result (broken_at store.new ≡ broken_at store.old) }
     ensures within { OnOk result (Fits store.old store.new) }
@@ -106,6 +107,26 @@ fn make_moves<D: Disk>(
             Ok(false) => return Ok(()),
             Err(error) => return Err(error),
         }
+    }
+}
+
+/// Makes the next move of a transform, where it has one, as one frame of the file.
+pub fn step<D: Disk>(
+    alloc: Global,
+    store: &mut Store<D>,
+    id: &Text,
+    moment: i64,
+) -> Result<(), StoreError>
+    ensures after { OnOk result (reverse (history_of store.new) ≡ moves moment 1 id.now (reverse (history_of store.old))) }
+    ensures broken { OnOk result (broken_at store.new ≡ broken_at store.old) }
+    ensures within { OnOk result (Fits store.old store.new) }
+    ensures stops { IfErr result (Stops D.meaning (IsMove moment id.now (reverse (history_of store.old))) store.old (reverse (moves moment 1 id.now (reverse (history_of store.old)))) store.new) }
+    ensures runs { Runs D.meaning store.old store.new }
+{
+    let mut indexer = Indexer::new();
+    match advance(alloc, store, &mut indexer, id, moment) {
+        Ok(_) => Ok(()),
+        Err(error) => Err(error),
     }
 }
 
@@ -151,5 +172,6 @@ fn next_entry(
 {
     core.is_taken();
     let entry = indexer.next_entry(alloc, core, id, moment)?;
+    numbers_fit(&entry);
     Ok(entry)
 }

@@ -2,8 +2,9 @@
 ghost use Rattle.std.specs.Prelude.{◌≡◌, ◌≤◌, ◌+◌, ◌++◌, List, ℕ, None, is_some, length, IfOk, OnErr, OnOk};
 ghost use Rattle.tf_model.specs.declared.entry.Entry.{Entry};
 ghost use Rattle.tf_journal.specs.Crashes.{LeavesOnly};
-ghost use Rattle.tf_event.specs.Entries.{IsBody, spelled_entries};
+ghost use Rattle.tf_event.specs.Entries.{FitsEntry, IsBody, spelled_entries, spelled_entry};
 ghost use Rattle.tf_event.specs.declared.grammar.Grammar.TheVariants.{First};
+ghost use Rattle.tf_core.specs.Kept.{entry_of};
 ghost use Rattle.tf_core.specs.Legal.{AreTakenAfter};
 ghost use Rattle.tf_store.specs.Crashes.{IsBeforeOrAfter};
 ghost use Rattle.tf_store.specs.Standing.{StandsFor};
@@ -13,8 +14,9 @@ use crate::error::StoreError;
 use crate::state::Store;
 use std::alloc::Global;
 use std::snapshot::Snapshot;
+use tf_core::{Kept, Ready};
 use tf_disk::Disk;
-use tf_event::encode;
+use tf_event::{encode, encode_write};
 use tf_journal::{Frame, JournalError};
 use tf_model::{Entry, List, OutOfMemory};
 
@@ -55,9 +57,9 @@ impl<D: Disk> Store<D> {
         if let Some(count) = self.broken {
             return Err(StoreError::Broken { count });
         }
-        let frame = frame_of(self.alloc, entries.as_slice())?;
         let asked = Snapshot::of(&entries);
         let ready = self.core.prepare(entries)?;
+        let frame = frame_of(self.alloc, &ready)?;
         match self.journal.append(&frame) {
             Ok(()) => {
                 self.core.apply(ready);
@@ -75,23 +77,35 @@ impl<D: Disk> Store<D> {
     }
 }
 
-// The frame that spells entries.
-fn frame_of(alloc: Global, entries: &[Entry]) -> Result<Frame, OutOfMemory>
-    requires { IsBody First entries.now }
-    ensures { IfOk result (λ frame. frame ≡ spelled_entries First entries.now) }
+// The frame that spells entries that are ready.
+fn frame_of(alloc: Global, ready: &Ready) -> Result<Frame, OutOfMemory>
+    requires { IsBody First ready.now.entries }
+    ensures { IfOk result (λ frame. frame ≡ spelled_entries First ready.now.entries) }
 {
-    let body = body_of(alloc, entries)?;
+    let body = body_of(alloc, ready)?;
     Frame::of(alloc, &body)
 }
 
-// The spellings of entries, one after another.
-fn body_of(alloc: Global, entries: &[Entry]) -> Result<List<u8>, OutOfMemory>
-    requires { IsBody First entries.now }
-    ensures { IfOk result (λ body. body ≡ spelled_entries First entries.now) }
+// The spellings of entries that are ready, one after another.
+fn body_of(alloc: Global, ready: &Ready) -> Result<List<u8>, OutOfMemory>
+    requires { IsBody First ready.now.entries }
+    ensures { IfOk result (λ body. body ≡ spelled_entries First ready.now.entries) }
 {
     let mut body = List::new(alloc);
-    for entry in entries {
-        encode(alloc, entry, &mut body)?;
+    let count = ready.len();
+    for at in 0..count {
+        encode_kept(alloc, ready.get(at), &mut body)?;
     }
     Ok(body)
+}
+
+// Appends the spelling of an entry. The document of a Write has been printed already.
+fn encode_kept(alloc: Global, kept: &Kept, out: &mut List<u8>) -> Result<(), OutOfMemory>
+    requires { FitsEntry First (entry_of kept.now) }
+    ensures { OnOk result (out.new ≡ out.old ++ spelled_entry First (entry_of kept.now)) }
+{
+    match kept {
+        Kept::Write { at_ms, actor, doc } => encode_write(alloc, *at_ms, *actor, doc, out),
+        Kept::Other(entry) => encode(alloc, entry, out),
+    }
 }

@@ -60,7 +60,7 @@ fn take_entry(alloc: Global, core: &mut Core, entry: Entry) -> Result<(), OutOfM
     requires { IsTaken (reverse core.old.history) entry }
     ensures { IfOk result (λ done. core.new.history ≡ core.old.history ++ entry ∷ []) }
 {
-    let mut one = List::new(alloc);
+    let mut one = List::with_capacity(alloc, 1)?;
     one.push(entry)?;
     let ready = core.prepare(one)?;
     core.apply(ready);

@@ -22,6 +22,6 @@ returns-in_ok-config_refusal-in-Err-clause-asked c =
     let reads = subst (λ indices. Reads (reading indices true c.args.config.now) c.read_config.result) c.in_ok-indices.ensures c.read_config.ensures.answer in
     let told = sym c.in_ok-config_refusal-in-Err.ensures in
     let refused = refused_reading wanted c.in-Err.error c.in_ok-config_refusal-in-Err.field-0 (subst (Reads wanted) c.in-Err.is reads) told in
-    let new = sym c.is_used.ensures ∙ c.if-is_used.false in
+    let new = sym c.is_transform.ensures ∙ c.if-is_transform.false in
     c.refused-in-Err.ensures.asked
     ∙ sym (ap (λ used. cond used (spec.refuses (refusal.TransformExists c.args.id)) (put_by wanted)) new ∙ (ap put_by refused ∙ ap (λ o. spec.refused_by o) told))

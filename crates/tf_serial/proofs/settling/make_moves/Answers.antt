@@ -22,7 +22,7 @@ moves-smaller g c =
     let past = reverse (history_of c.moves.store) in
     let now = reverse (history_of c.advance.new.store) in
     let advanced = subst (λ (b : Bool). IsAdvanced given b id past now) c.in-Ok-true.field-0-test c.in-Ok-true.ensures.moved in
-    fewer_now given id (reverse (history_of c.args.store.now)) past c.moves.invariant.so_far c.requires.batch now advanced.0 advanced.1 advanced.2
+    fewer_now given id (reverse (history_of c.args.store.now)) past c.moves.invariant.so_far c.requires.paced now advanced.0 advanced.1 advanced.2
 
 pub moves-preserved : goal.moves-preserved
 moves-preserved g c =
@@ -48,7 +48,7 @@ returns-in-Ok-false-clause-after g c =
     let past = reverse (history_of c.moves.store) in
     let now = reverse (history_of c.advance.new.store) in
     let advanced = subst (λ (b : Bool). IsAdvanced given b id past now) c.in-Ok-false.field-0-test c.in-Ok-false.ensures.moved in
-    all_made given id first past c.moves.invariant.so_far c.requires.batch now advanced ∙ ap (λ (t : ℤ). moved_out t id first) same
+    all_made given id first past c.moves.invariant.so_far c.requires.paced now advanced ∙ ap (λ (t : ℤ). moved_out t id first) same
 
 pub returns-in-Ok-false-clause-runs : goal.returns-in-Ok-false-clause-runs
 returns-in-Ok-false-clause-runs g c = runs_through g.D.Disk.meaning c.args.store.now c.moves.store c.advance.new.store c.moves.invariant.runs c.in-Ok-false.ensures.runs
@@ -66,7 +66,7 @@ returns-in-Err-clause-stops g c =
     let past = reverse (history_of at.store) in
     subst (λ (t : ℤ). Stops m (IsMove t id first) old (reverse (moved_out t id first)) new c.in-Err.error) same
     (stop_wider (IsMove given id past) (IsMove given id first) (history_of old) (history_of at.store) (reverse (moves given 1 id past)) (reverse (moved_out given id first)) (history_of new) (failed_of new) (broken_at old) (broken_at at.store) (broken_at new) (file_len new) (m.faults (disk_of old)) (m.faults (disk_of at.store)) (m.faults (disk_of new)) c.in-Err.error
-    (move_frames given id first past at.invariant.so_far) at.invariant.runs.history.begun (next_begins given id first past at.invariant.so_far c.requires.batch) at.invariant.broken at.invariant.runs.later c.in-Err.ensures.stops)
+    (move_frames given id first past at.invariant.so_far) at.invariant.runs.history.begun (next_begins given id first past at.invariant.so_far c.requires.paced) at.invariant.broken at.invariant.runs.later c.in-Err.ensures.stops)
 
 pub returns-in-Err-clause-runs : goal.returns-in-Err-clause-runs
 returns-in-Err-clause-runs g c = runs_through g.D.Disk.meaning c.args.store.now c.moves.store c.advance.new.store c.moves.invariant.runs c.in-Err.ensures.runs

@@ -6,10 +6,10 @@ use Rattle.tf_store.specs.Words.{broken_at, disk_of, failed_of, file_len, histor
 use Rattle.tf_serial.specs.Frames.{IsMove, IsOfPass}
 use Rattle.tf_serial.specs.Moves.{moved_out, pass}
 use Rattle.tf_serial.specs.Parts.{Stops}
-use Rattle.tf_serial.specs.Settling.{AreBatch}
+use Rattle.tf_serial.specs.Settling.{ArePaced}
 use Rattle.tf_serial.proofs.Frames.{out_begins, pass_frames, pass_more}
 use Rattle.tf_serial.proofs.GoingOn.{runs_itself, runs_through}
-use Rattle.tf_serial.proofs.Passes.{pass_batch}
+use Rattle.tf_serial.proofs.Passes.{pass_paced}
 use Rattle.tf_serial.proofs.Stopping.{stop_wider}
 use Rattle.tf_serial.proofs.Within.{within_itself, within_through}
 use Rattle.tf_serial.proofs.settling.make_pass.Goals as goal
@@ -20,7 +20,7 @@ loop-id-init g c = record { broken = refl; within = within_itself (history_of c.
 pub make_moves-requires : goal.make_moves-requires
 make_moves-requires g c =
     let given = to_z w64 (of_z w64 c.args.moment) in
-    record { batch = subst AreBatch (sym c.loop-id.invariant.so_far) (pass_batch given (take c.loop-id.id-index c.args.ids.now) (reverse (history_of c.args.store.now)) c.requires.batch) }
+    record { paced = subst ArePaced (sym c.loop-id.invariant.so_far) (pass_paced given (take c.loop-id.id-index c.args.ids.now) (reverse (history_of c.args.store.now)) c.requires.paced) }
 
 pub loop-id-preserved : goal.loop-id-preserved
 loop-id-preserved g c =

@@ -13,7 +13,7 @@ use Rattle.tf_store.proofs.Committing.{leaves_history, stands_more, grows_by, kn
 use Rattle.tf_store.proofs.state.Store.commit.Goals as goal
 
 pub append-requires : goal.append-requires
-append-requires g c = subst (λ (l : List ℕ). 0 < length l) (sym (c.in_ok-frame.ensures ∙ ap (spelled_entries First) c.as_slice.ensures)) (body_has_byte c.args.entries c.requires.body)
+append-requires g c = subst (λ (l : List ℕ). 0 < length l) (sym (c.in_ok-frame.ensures ∙ ap (spelled_entries First) c.in_ok-ready.ensures.entries)) (body_has_byte c.args.entries c.requires.body)
 
 pub invariant_of-self-in-Ok : goal.invariant_of-self-in-Ok
 invariant_of-self-in-Ok g c =
@@ -21,7 +21,7 @@ invariant_of-self-in-Ok g c =
     let old = c.args.self.now in
     let new = c.append.new.self in
     let body = c.in_ok-frame.frame in
-    let spells : Spells body c.args.entries = record { has_spelling = c.requires.body; spelling = c.in_ok-frame.ensures ∙ ap (spelled_entries First) c.as_slice.ensures } in
+    let spells : Spells body c.args.entries = record { has_spelling = c.requires.body; spelling = c.in_ok-frame.ensures ∙ ap (spelled_entries First) c.in_ok-ready.ensures.entries } in
     let unbroken : old.broken ≡ None = search rules in
     let sound : broken_at old.journal ≡ None = sym old.breaks ∙ unbroken in
     let grown : c.apply.new.self.history ≡ old.core.history ++ c.args.entries = c.apply.ensures.history ∙ (λ i. c.in_ok-ready.ensures.history i ++ c.in_ok-ready.ensures.entries i) in record {
@@ -34,14 +34,14 @@ pub returns-in-Ok-clause-stands : goal.returns-in-Ok-clause-stands
 returns-in-Ok-clause-stands g c stands =
     let unbroken : c.args.self.now.broken ≡ None = search rules in
     let sound : broken_at c.args.self.now.journal ≡ None = sym c.args.self.now.breaks ∙ unbroken in
-    let spells : Spells c.in_ok-frame.frame c.args.entries = record { has_spelling = c.requires.body; spelling = c.in_ok-frame.ensures ∙ ap (spelled_entries First) c.as_slice.ensures } in
+    let spells : Spells c.in_ok-frame.frame c.args.entries = record { has_spelling = c.requires.body; spelling = c.in_ok-frame.ensures ∙ ap (spelled_entries First) c.in_ok-ready.ensures.entries } in
     stands_more g.D.Disk.meaning c.args.self.now.core.history c.args.entries c.in_ok-frame.frame c.args.self.now.journal c.append.new.self spells c.requires.taken sound c.in-Ok.ensures.frames stands
 
 pub returns-in-Ok-clause-any_moment : goal.returns-in-Ok-clause-any_moment
 returns-in-Ok-clause-any_moment g c stands =
     let unbroken : c.args.self.now.broken ≡ None = search rules in
     let sound : broken_at c.args.self.now.journal ≡ None = sym c.args.self.now.breaks ∙ unbroken in
-    let spells : Spells c.in_ok-frame.frame c.args.entries = record { has_spelling = c.requires.body; spelling = c.in_ok-frame.ensures ∙ ap (spelled_entries First) c.as_slice.ensures } in
+    let spells : Spells c.in_ok-frame.frame c.args.entries = record { has_spelling = c.requires.body; spelling = c.in_ok-frame.ensures ∙ ap (spelled_entries First) c.in_ok-ready.ensures.entries } in
     leaves_history g.D.Disk.meaning c.args.self.now.core.history c.args.entries c.in_ok-frame.frame c.args.self.now.journal c.append.new.self spells c.requires.taken sound c.append.ensures.any_moment stands
 
 pub invariant_of-self-in-Err-DiskFault : goal.invariant_of-self-in-Err-DiskFault
@@ -50,7 +50,7 @@ invariant_of-self-in-Err-DiskFault g c =
     let old = c.args.self.now in
     let new = c.append.new.self in
     let body = c.in_ok-frame.frame in
-    let spells : Spells body c.args.entries = record { has_spelling = c.requires.body; spelling = c.in_ok-frame.ensures ∙ ap (spelled_entries First) c.as_slice.ensures } in
+    let spells : Spells body c.args.entries = record { has_spelling = c.requires.body; spelling = c.in_ok-frame.ensures ∙ ap (spelled_entries First) c.in_ok-ready.ensures.entries } in
     let unbroken : old.broken ≡ None = search rules in
     let sound : broken_at old.journal ≡ None = sym old.breaks ∙ unbroken in
     let broke : broken_at new ≡ Some c.in-Err-DiskFault.count = c.in-Err-DiskFault.ensures.broken ∙ ap (λ (e : JournalError). broken_after (broken_at old.journal) (Err e)) c.in-Err-DiskFault.field-0-is in record {
@@ -63,19 +63,19 @@ pub returns-in-Err-DiskFault-clause-any_moment : goal.returns-in-Err-DiskFault-c
 returns-in-Err-DiskFault-clause-any_moment g c stands =
     let unbroken : c.args.self.now.broken ≡ None = search rules in
     let sound : broken_at c.args.self.now.journal ≡ None = sym c.args.self.now.breaks ∙ unbroken in
-    let spells : Spells c.in_ok-frame.frame c.args.entries = record { has_spelling = c.requires.body; spelling = c.in_ok-frame.ensures ∙ ap (spelled_entries First) c.as_slice.ensures } in
+    let spells : Spells c.in_ok-frame.frame c.args.entries = record { has_spelling = c.requires.body; spelling = c.in_ok-frame.ensures ∙ ap (spelled_entries First) c.in_ok-ready.ensures.entries } in
     leaves_history g.D.Disk.meaning c.args.self.now.core.history c.args.entries c.in_ok-frame.frame c.args.self.now.journal c.append.new.self spells c.requires.taken sound c.append.ensures.any_moment stands
 
 pub returns-in-Err-Full-clause-any_moment : goal.returns-in-Err-Full-clause-any_moment
 returns-in-Err-Full-clause-any_moment g c stands =
     let unbroken : c.args.self.now.broken ≡ None = search rules in
     let sound : broken_at c.args.self.now.journal ≡ None = sym c.args.self.now.breaks ∙ unbroken in
-    let spells : Spells c.in_ok-frame.frame c.args.entries = record { has_spelling = c.requires.body; spelling = c.in_ok-frame.ensures ∙ ap (spelled_entries First) c.as_slice.ensures } in
+    let spells : Spells c.in_ok-frame.frame c.args.entries = record { has_spelling = c.requires.body; spelling = c.in_ok-frame.ensures ∙ ap (spelled_entries First) c.in_ok-ready.ensures.entries } in
     leaves_history g.D.Disk.meaning c.args.self.now.core.history c.args.entries c.in_ok-frame.frame c.args.self.now.journal c.append.new.self spells c.requires.taken sound c.append.ensures.any_moment stands
 
 pub returns-in-Ok-clause-len : goal.returns-in-Ok-clause-len
 returns-in-Ok-clause-len g c =
     let unbroken : c.args.self.now.broken ≡ None = search rules in
     let sound : broken_at c.args.self.now.journal ≡ None = sym c.args.self.now.breaks ∙ unbroken in
-    let spells : Spells c.in_ok-frame.frame c.args.entries = record { has_spelling = c.requires.body; spelling = c.in_ok-frame.ensures ∙ ap (spelled_entries First) c.as_slice.ensures } in
+    let spells : Spells c.in_ok-frame.frame c.args.entries = record { has_spelling = c.requires.body; spelling = c.in_ok-frame.ensures ∙ ap (spelled_entries First) c.in_ok-ready.ensures.entries } in
     grows_by g.D.Disk.meaning c.args.self.now.core.history c.args.entries c.in_ok-frame.frame c.args.self.now.journal c.append.new.self spells c.requires.taken sound c.args.self.now.opened_with.value c.args.self.now.failed.value c.in-Ok.ensures.frames c.args.self.now.known
