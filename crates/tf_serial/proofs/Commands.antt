@@ -50,9 +50,14 @@ alone_after past command alone = ap (λ f. followed (given past command) f (past
 pub alone_reply : (past : List Entry) (command : Parts) → IsAlone past command → replied past 0 (given past command) command ≡ reply_of past command
 alone_reply past command alone = ap (λ (now : List Entry). reply_by command.line past now (asked past command).answer) (sym (alone_after past command alone))
 
-pub alone_behind : (history now : List Entry) (command : Parts) → IsAlone (reverse history) command → now ≡ history ++ (asked (reverse history) command).entries → reverse now ≡ after_command (reverse history) command
+alone_behind : (history now : List Entry) (command : Parts) → IsAlone (reverse history) command → now ≡ history ++ (asked (reverse history) command).entries → reverse now ≡ after_command (reverse history) command
 alone_behind history now command alone made =
     ap reverse made ∙ (reverse-append history (asked (reverse history) command).entries ∙ sym (alone_after (reverse history) command alone))
+
+pub alone_done : {E : Type 0} (result : Result Reply E) (history now : List Entry) (command : Parts) → IsAlone (reverse history) command → OnOk result (now ≡ history ++ (asked (reverse history) command).entries)
+    → OnOk result (reverse now ≡ after_command (reverse history) command)
+alone_done (Ok r) history now command alone made = alone_behind history now command alone made
+alone_done (Err e) history now command alone made = tt
 
 pub alone_whole : (history : List Entry) (command : Parts) → IsAlone (reverse history) command → history ++ (asked (reverse history) command).entries ≡ reverse (after_command (reverse history) command)
 alone_whole history command alone =
