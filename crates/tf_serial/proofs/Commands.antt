@@ -1,7 +1,7 @@
 -- What a command does: its entries where no move follows it, else the moves.
-use Rattle.std.proofs.Common.{◌≡◌, ℕ, ℤ, ◌++◌, Bool, true, false, cond, ◌&&◌, List, OnOk, Ok, Err, Option, Some, None, refl, sym, ap, subst, ◌∙◌}
+use Rattle.std.proofs.Common.{◌≡◌, ℕ, ℤ, ◌++◌, Bool, true, false, cond, ◌&&◌, List, OnOk, Ok, Err, refl, sym, ap, subst, ◌∙◌}
 use Rattle.std.proofs.lemmas.List.{reverse-append, reverse-reverse}
-use Rattle.std.specs.Prelude.{IfOk, Result, if◌then◌else◌, is_some, reverse}
+use Rattle.std.specs.Prelude.{Result, if◌then◌else◌, is_some, reverse}
 use Rattle.tf_model.specs.declared.entry.Entry.{Entry}
 use Rattle.tf_model.specs.Names.{is_transform_id}
 use Rattle.tf_command.specs.declared.command.Parts.{Parts}
@@ -11,7 +11,7 @@ use Rattle.tf_history.specs.Transforms.{transform_of}
 use Rattle.tf_reply.specs.declared.replies.Reply.{Reply}
 use Rattle.tf_reply.specs.declared.faults.Refusal.TheVariants as refusal
 use Rattle.tf_decide.specs.Asking as decide
-use Rattle.tf_decide.specs.Replying.{IsAccepted, is_refused, past_after, replied, replied_after, reply_by, told_alone}
+use Rattle.tf_decide.specs.Replying.{IsAccepted, is_refused, past_after, replied, reply_by, told_alone}
 use Rattle.tf_decide.specs.declared.asked.Answer.{Answer}
 use Rattle.tf_decide.specs.declared.asked.Answer.TheVariants as answer
 use Rattle.tf_decide.specs.declared.asked.Asked.{Asked}

@@ -1,8 +1,8 @@
 -- The entry of a next move has a spelling and is right.
-use Rattle.std.proofs.Common.{◌≡◌, ℕ, ◌<◌, ◌≤◌, ◌^◌, ℤ, true, false, cond, List, [], ◌∷◌, length, Option, Some, None, refl, sym, ap, ◌∙◌, subst, arith}
+use Rattle.std.proofs.Common.{◌≡◌, ℕ, ◌<◌, ℤ, true, false, cond, List, [], ◌∷◌, Option, Some, None, refl, sym, ap, ◌∙◌, subst, arith}
 use Rattle.std.specs.List.{AllByRecursion, find}
 use Rattle.std.specs.Option.{option_and_then, option_map}
-use Rattle.std.specs.Prelude.{IfSome, IsSomeAnd, is_none, negsuc, pos, reverse}
+use Rattle.std.specs.Prelude.{IfSome, IsSomeAnd, negsuc, pos, reverse}
 use Rattle.std.specs.Int.{w64, w128}
 use Rattle.std.specs.Int.RustNames.{FitsSigned}
 use Rattle.std.proofs.lemmas.Int.{ints}
@@ -24,12 +24,11 @@ use Rattle.tf_history.specs.Histories.{IsRightEvent}
 use Rattle.tf_history.specs.Legality.{IsAllowed, MayBegin, MayFail, MayPage, MayFinish}
 use Rattle.tf_history.specs.Legality as legality
 use Rattle.tf_history.specs.LegalEntries.{IsRowValue}
-use Rattle.tf_history.specs.Lives.{Life, documents, is_same, last_bound, life}
+use Rattle.tf_history.specs.Lives.{Life, documents, is_same, life}
 use Rattle.tf_history.specs.Reading.{deed_of}
 use Rattle.tf_history.specs.Transforms.{PutTransform, meaning_of, transform_of, transforms}
 use Rattle.tf_history.proofs.EntriesLaw.{lives_are_configured}
 use Rattle.tf_history.proofs.MovesLaw.{moves_are_legal}
-use Rattle.tf_core.specs.Built.{is_built}
 use Rattle.tf_core.specs.BuiltPast.{IsBuiltPut}
 use Rattle.tf_core.specs.Legal.{IsTaken, IsTakenHistory, IsTakenPast, read, reading}
 use Rattle.tf_core.specs.Moves.{kind_of, moment_after, moved}

@@ -1,5 +1,5 @@
 -- What the numbers of an entry are known to be.
-use Rattle.std.specs.Prelude.{ℕ, ◌<◌, ◌^◌, ⊤, IfSome}
+use Rattle.std.specs.Prelude.{◌<◌, ◌^◌, ⊤, IfSome}
 use Rattle.std.specs.Int.{w64}
 use Rattle.std.specs.Int.RustNames.{FitsSigned}
 use Rattle.tf_model.specs.declared.entry.Kind.{Kind}
