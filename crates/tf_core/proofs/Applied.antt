@@ -67,10 +67,12 @@ small_of n low t h = record {
   indexed = omega (arith, h.indexed, low);
 }
 
+pub few_entries : (entries : Vec Kept) → length (past_in entries.items) < 2 ^ 63
+few_entries entries = omega (arith, length_past entries.items, entries.ok.0, entries.ok.1, entries.small)
+
 pub all_small : (entries : Vec Kept) (indices : List SourceIndex) (docs : List Doc) (ts : List Transform) → Stands (past_in entries.items) indices docs ts → AllByRecursion IsSmall ts
 all_small entries indices docs ts stands =
-    let low : length (past_in entries.items) < 2 ^ 63 = omega (arith, length_past entries.items, entries.ok.0, entries.ok.1, entries.small) in
-    all_weaker (IsFew (length (past_in entries.items))) IsSmall (small_of (length (past_in entries.items)) low) ts stands.few
+    all_weaker (IsFew (length (past_in entries.items))) IsSmall (small_of (length (past_in entries.items)) (few_entries entries)) ts stands.few
 
 -- ---- room for rows
 fewer : (p : Prepared) (steps : List Prepared) (t : Transform) → HasRowRoom (all_paged (p ∷ steps)) t → HasRowRoom (all_paged steps) t
@@ -136,7 +138,7 @@ module _ (entries : Vec Kept) (indices : Vec SourceIndex) (docs : Vec (Arc Doc G
   can_step = by_step p.step refl there ready.room.indices ready.room.docs ready.room.transforms
 
   module _ (entries' : Vec Kept) (indices' : Vec SourceIndex) (docs' : Vec (Arc Doc Global)) (ts' : Vec Transform) (h : Applied p entries entries' indices indices' docs docs' ts ts') where
-    past_is : past_in entries'.items ≡ entry_of p.kept ∷ past_in entries.items
+    pub past_is : past_in entries'.items ≡ entry_of p.kept ∷ past_in entries.items
     past_is = ap past_in h.entries ∙ past_more entries.items p.kept
 
     length_shared : (ds : List (Arc Doc Global)) → length (shared ds) ≡ length ds

@@ -43,7 +43,7 @@ all_in_span : (past : List Entry) → IsTakenPast past → AllByRecursion IsInSp
 all_in_span [] taken = tt
 all_in_span (e ∷ past) taken = (taken.1.legal.moment, all_in_span past taken.0)
 
-as_many : (past : List Entry) → length (read past) ≡ length past
+pub as_many : (past : List Entry) → length (read past) ≡ length past
 as_many [] = refl
 as_many (e ∷ past) = ap suc (as_many past)
 

@@ -1,7 +1,7 @@
 -- A summary after a change, and after a document.
 use Rattle.std.proofs.Common.{◌≡◌, ℕ, ℤ, suc, add-one, ◌+◌, ◌^◌, ◌<◌, Bool, true, not, List, [], ◌∷◌, ◌++◌, length, take, Option, Some, None, arith, refl, sym, ap, ◌∙◌, subst, length-append}
 use Rattle.std.specs.Prelude.{count_by, nat_lt, option_map}
-use Rattle.std.specs.List.{filter}
+use Rattle.std.specs.List.{AllByRecursion, filter}
 use Rattle.std.specs.Global.{Vec}
 use Rattle.tf_dest.specs.declared.held.Held.{Held}
 use Rattle.tf_dest.specs.Tables.{Table, rows_in, rows_of}
@@ -22,9 +22,11 @@ use Rattle.tf_history.proofs.KeptLaw.{no_cutoff}
 use Rattle.tf_core.specs.declared.ready.Change.{Change}
 use Rattle.tf_core.specs.declared.ready.Change.TheVariants as change
 use Rattle.tf_core.specs.declared.transform.Transform.{Transform}
+use Rattle.tf_core.specs.Passed.{IsPassed}
 use Rattle.tf_core.specs.Steps.{Changed, IsWhole, act_of, changed, rows_after, started}
 use Rattle.tf_core.specs.Summary.{IsFew, IsSummary, put_of}
 use Rattle.tf_core.specs.Table.{Tells}
+use Rattle.tf_core.proofs.Passed.{all_passed_on, bound_rises, marked_more}
 
 -- more documents
 pub more_docs : (docs more : List Doc) (t : Transform) (l : Life) → IsSummary docs t l → IsSummary (docs ++ more) t l
@@ -40,6 +42,10 @@ more_docs docs more t l h = record {
   moment = h.moment;
   within = omega (arith, h.within, length-append docs more);
   read = h.read ∙ ap (from_sources l.meaning) (sym (take-append-le t.read docs more h.within));
+  marked = marked_more docs more t.config t.low t.bound t.read t.passed h.within h.marked;
+  earlier_moment = h.earlier_moment;
+  earlier_within = omega (arith, h.earlier_within, length-append docs more);
+  earlier_read = h.earlier_read ∙ ap (from_sources l.meaning) (sym (take-append-le t.before_read docs more h.earlier_within));
   finished = h.finished;
   position = h.position;
   pages = h.pages;
@@ -100,6 +106,10 @@ module _ (docs : List Doc) (t : Transform) (l : Life) (h : IsSummary docs t l) (
     moment = h.moment;
     within = h.within;
     read = h.read;
+    marked = h.marked;
+    earlier_moment = h.earlier_moment;
+    earlier_within = h.earlier_within;
+    earlier_read = h.earlier_read;
     finished = h.finished;
     position = h.position;
     pages = h.pages;
@@ -125,6 +135,14 @@ module _ (docs : List Doc) (t : Transform) (l : Life) (h : IsSummary docs t l) (
     moment = refl;
     within = omega arith;
     read = ap (from_sources l.meaning) (sym (take_all docs));
+    marked = record {
+      risen = bound_rises l n bound moment m t.bound h.bound;
+      behind = omega (arith, h.marked.behind, h.within);
+      passed = all_passed_on t.config t.low t.bound h.marked.risen (take t.passed docs) h.marked.passed;
+    };
+    earlier_moment = h.moment;
+    earlier_within = h.within;
+    earlier_read = h.read;
     finished = h.finished;
     position = refl;
     pages = refl;
@@ -150,6 +168,10 @@ module _ (docs : List Doc) (t : Transform) (l : Life) (h : IsSummary docs t l) (
     moment = h.moment;
     within = h.within;
     read = h.read;
+    marked = h.marked;
+    earlier_moment = h.earlier_moment;
+    earlier_within = h.earlier_within;
+    earlier_read = h.earlier_read;
     finished = h.finished;
     position = sym last;
     pages = ap (λ m. m + 1) h.pages;
@@ -174,6 +196,10 @@ module _ (docs : List Doc) (t : Transform) (l : Life) (h : IsSummary docs t l) (
     moment = h.moment;
     within = h.within;
     read = h.read;
+    marked = h.marked;
+    earlier_moment = h.earlier_moment;
+    earlier_within = h.earlier_within;
+    earlier_read = h.earlier_read;
     finished = refl;
     position = h.position;
     pages = h.pages;
@@ -198,6 +224,10 @@ module _ (docs : List Doc) (t : Transform) (l : Life) (h : IsSummary docs t l) (
     moment = refl;
     within = omega arith;
     read = ap (from_sources l.meaning) (sym (take_none docs));
+    marked = record { risen = tt; behind = omega arith; passed = subst (AllByRecursion (IsPassed t.config None)) (sym (take_none docs)) tt };
+    earlier_moment = refl;
+    earlier_within = omega arith;
+    earlier_read = ap (from_sources l.meaning) (sym (take_none docs));
     finished = refl;
     position = refl;
     pages = refl;

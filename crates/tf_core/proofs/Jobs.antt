@@ -17,6 +17,7 @@ use Rattle.tf_core.specs.Built.{is_built_config}
 use Rattle.tf_core.specs.Job.{IsCheckpointOf, IsRunningAt}
 use Rattle.tf_core.specs.Legal.{read}
 use Rattle.tf_core.specs.Moves.{IsRunningOf, is_moved_on}
+use Rattle.tf_core.specs.Passed.{HasMark}
 use Rattle.tf_core.specs.Standing.{Stands}
 use Rattle.tf_core.specs.Table.{Tells, transform_at}
 use Rattle.tf_core.proofs.AllowedKinds.{config_in_range, docs_fit}
@@ -32,8 +33,8 @@ none_there past indices docs ts s id moment there =
     ap (option_and_then (λ (l : Life). move_of id l (lives.documents (read past)) moment)) none
 
 module _ (past : List Entry) (indices : List SourceIndex) (docs : List Doc) (ts : List Transform) (s : Stands past indices docs ts) (id : List ℕ) (t : Transform) (there : transform_at id ts ≡ Some t) where
-  pub within : t.read ≤ length docs
-  within = (has_life past indices docs ts s id t there).tells.within
+  pub is_marked : HasMark t docs
+  is_marked = (has_life past indices docs ts s id t there).tells.marked
 
   pub finished_few : t.finished ≤ length past
   finished_few =

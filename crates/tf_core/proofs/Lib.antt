@@ -7,6 +7,8 @@ pub mod BuiltPast
 pub mod Set
 pub mod Tables
 pub mod Taken
+pub mod Passed
+pub mod LastFinished
 pub mod Changes
 pub mod Begun
 pub mod Due
@@ -19,6 +21,7 @@ pub mod Found
 pub mod IdsLaws
 pub mod CountsLaws
 pub mod SameTables
+pub mod MovedMarks
 pub mod RowRoom
 pub mod Opened
 pub mod ReadyCore

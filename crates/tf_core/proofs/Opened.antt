@@ -5,6 +5,7 @@ use Rattle.tf_model.specs.declared.entry.Entry.{Entry}
 use Rattle.tf_model.specs.declared.entry.Kind.TheVariants as kind
 use Rattle.tf_history.specs.Catalogue.{SourceIndex, source_numbers}
 use Rattle.tf_history.specs.Configured.{meaning}
+use Rattle.tf_history.specs.Lives.{is_same}
 use Rattle.tf_history.specs.Lives.Act.{Opens}
 use Rattle.tf_history.specs.Transforms.{PutTransform}
 use Rattle.tf_core.specs.declared.ready.Step.TheVariants as step
@@ -25,6 +26,7 @@ module _ (indices : List SourceIndex) (pages : List Paged) (id : List ℕ) (conf
       writes_is = refl;
       puts_is = λ before. ap (λ (p : PutTransform). p ∷ before) (sym put_is);
       acts_is = λ other. sym (ap (λ (p : PutTransform). only p.id (Opens (meaning p.sources p.config)) other) put_is);
+      names_is = λ other. ap (is_same other) (sym o.named);
       has_life = λ past allowed. tt;
       sound = o.summary;
     };

@@ -25,7 +25,7 @@ use Rattle.tf_core.specs.declared.ready.Step.{Step}
 use Rattle.tf_core.specs.declared.ready.Step.TheVariants as step
 use Rattle.tf_core.specs.declared.transform.Transform.{Transform}
 use Rattle.tf_core.specs.Chain.{AreSteps, Batch, HasRoom, entries_in}
-use Rattle.tf_core.specs.Counts.{AreCounted, HaveCounts, SameCounts}
+use Rattle.tf_core.specs.Counts.{AreCounted, AreMentioned, HaveCounts, SameCounts}
 use Rattle.tf_core.specs.Ids.{AreIndexed, AreNew, IsNew, all_docs}
 use Rattle.tf_core.specs.Kept.{entry_of, past_in}
 use Rattle.tf_core.specs.Legal.{AreTaken, IsTaken, read, reading}
@@ -35,7 +35,7 @@ use Rattle.tf_core.specs.Rooms.{SameTables}
 use Rattle.tf_core.specs.Standing.{IsCore, Stands, shared}
 use Rattle.tf_core.specs.Steps.{IsStep}
 use Rattle.tf_mapping.specs.Documents.{reads, values_of}
-use Rattle.tf_core.proofs.CountsLaws.{still_counted}
+use Rattle.tf_core.proofs.CountsLaws.{still_counted, still_mentioned}
 use Rattle.tf_core.proofs.SameTables.{still_stands}
 use Rattle.tf_core.proofs.Taken.{is_allowed, is_forever}
 use Rattle.tf_core.proofs.Written.{kept_is_read}
@@ -123,7 +123,7 @@ new_ids past indices docs ts entries stands taken steps made =
 module _ (ids : Ids) (counts counts' : Counts) (es es' : Vec Kept) (ss ss' : Vec SourceIndex) (ds ds' : Vec (Arc Doc Global)) (ts ts' : Vec Transform)
     (same_es : es'.items ≡ es.items) (same_ss : ss'.items ≡ ss.items) (same_ds : ds'.items ≡ ds.items) (same : SameTables ts.items ts'.items)
     (stands : Stands (past_in es.items) ss.items (shared ds.items) ts.items) (indexed : AreIndexed ids (shared ds.items))
-    (same_counts : SameCounts counts counts') (counted : AreCounted counts (shared ds.items)) where
+    (same_counts : SameCounts counts counts') (counted : AreCounted counts (shared ds.items)) (mentioned : AreMentioned counts (past_in es.items)) where
   stands_still : Stands (past_in es'.items) ss'.items (shared ds'.items) ts'.items
   stands_still =
       subst (λ xs. Stands (past_in xs) ss'.items (shared ds'.items) ts'.items) (sym same_es)
@@ -137,8 +137,11 @@ module _ (ids : Ids) (counts counts' : Counts) (es es' : Vec Kept) (ss ss' : Vec
   counted_still : AreCounted counts' (shared ds'.items)
   counted_still = subst (λ xs. AreCounted counts' (shared xs)) (sym same_ds) (still_counted counts counts' (shared ds.items) same_counts counted)
 
+  mentioned_still : AreMentioned counts' (past_in es'.items)
+  mentioned_still = subst (λ xs. AreMentioned counts' (past_in xs)) (sym same_es) (still_mentioned counts counts' (past_in es.items) same_counts mentioned)
+
   pub idle_core : IsCore ids counts' es' ss' ds' ts' None
-  idle_core = record { stands = stands_still; indexed = indexed_still; counted = counted_still; prepared = tt }
+  idle_core = record { stands = stands_still; indexed = indexed_still; counted = counted_still; mentioned = mentioned_still; prepared = tt }
 
   pub ready_core : (entries : List Entry) (b : Batch) → AreTaken (past_in es.items) entries → ArePrepared ss.items entries b.steps → HasRoom b.steps es' ss' ds' ts' → AreIndexed ids (shared ds.items ++ all_docs b.steps) → HaveCounts counts' b.steps
       → IsCore ids counts' es' ss' ds' ts' (Some b)
@@ -146,6 +149,7 @@ module _ (ids : Ids) (counts counts' : Counts) (es es' : Vec Kept) (ss ss' : Vec
     stands = stands_still;
     indexed = indexed_still;
     counted = counted_still;
+    mentioned = mentioned_still;
     prepared = record {
       ready = record {
         taken = subst (λ xs. AreTaken (past_in xs) (entries_in b.steps)) (sym same_es) (subst (AreTaken (past_in es.items)) (sym made.same) taken);

@@ -4,7 +4,9 @@ pub mod Legal
 pub mod Laws
 pub mod BuiltPast
 pub mod Allowing
+pub mod Passed
 pub mod Summary
+pub mod Finished
 pub mod Late
 pub mod Table
 pub mod Steps

@@ -10,6 +10,7 @@ use Rattle.tf_history.specs.Lives.{documents}
 use Rattle.tf_history.specs.Transforms.{PutTransform, transforms}
 use Rattle.tf_core.specs.declared.transform.Transform.{Transform}
 use Rattle.tf_core.specs.Legal.{read}
+use Rattle.tf_core.specs.Counts.{mentions}
 
 -- the indices of a history, in the order of their numbers
 abbrev pub indices_in : List Entry → List SourceIndex
@@ -46,3 +47,7 @@ some_has p (Some d) = p d
 -- how many documents a shard of an index has
 abbrev pub shard_count : ℕ → ℕ → List Entry → ℕ
 shard_count index shard history = count_by (is_in_shard index shard) (docs_in history)
+
+-- how many entries name a transform, over all its lives
+abbrev pub mentions_in : List ℕ → List Entry → ℕ
+mentions_in id history = mentions id (reverse history)

@@ -16,7 +16,7 @@ use Rattle.tf_core.specs.declared.transform.Transform.{Transform}
 use Rattle.tf_core.specs.Chain.{AreSteps, Batch, HasRoom, entries_in}
 use Rattle.tf_core.specs.declared.counts.Counts.{Counts}
 use Rattle.tf_core.specs.declared.ids.Ids.{Ids}
-use Rattle.tf_core.specs.Counts.{AreCounted, HaveCounts}
+use Rattle.tf_core.specs.Counts.{AreCounted, AreMentioned, HaveCounts}
 use Rattle.tf_core.specs.Ids.{AreIndexed, all_docs}
 use Rattle.tf_core.specs.Kept.{past_in}
 use Rattle.tf_core.specs.Legal.{AreTaken, IsTakenPast, read}
@@ -44,7 +44,7 @@ pub record IsReady (entries : Vec Kept) (indices : Vec SourceIndex) (docs : Vec 
   pub chain : AreSteps indices.items steps
   pub room : HasRoom steps entries indices docs ts
 
--- ready, and the documents that are to come have their places, and their shards counts
+-- ready, and the documents that are to come have their places, and their shards and transforms counts
 pub record IsReadyWith (ids : Ids) (counts : Counts) (entries : Vec Kept) (indices : Vec SourceIndex) (docs : Vec (Arc Doc Global)) (ts : Vec Transform) (b : Batch) : Type 0 where
   pub ready : IsReady entries indices docs ts b.steps
   pub indexed : AreIndexed ids (shared docs.items ++ all_docs b.steps)
@@ -54,6 +54,7 @@ pub record IsCore (ids : Ids) (counts : Counts) (entries : Vec Kept) (indices : 
   pub stands : Stands (past_in entries.items) indices.items (shared docs.items) ts.items
   pub indexed : AreIndexed ids (shared docs.items)
   pub counted : AreCounted counts (shared docs.items)
+  pub mentioned : AreMentioned counts (past_in entries.items)
   pub prepared : IfSome ready (IsReadyWith ids counts entries indices docs ts)
 
 -- what applying a prepared entry does: it is kept, and its step is made

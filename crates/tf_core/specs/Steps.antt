@@ -9,7 +9,7 @@ use Rattle.tf_model.specs.declared.task.State.TheVariants as state
 use Rattle.tf_history.specs.Catalogue.{SourceIndex, makes}
 use Rattle.tf_history.specs.Configured.{meaning}
 use Rattle.tf_history.specs.Events.{Event}
-use Rattle.tf_history.specs.Legality.{IsAllowed}
+use Rattle.tf_history.specs.Legality.{IsAllowed, names}
 use Rattle.tf_history.specs.Lives.{Act, act, after_finish, fresh, is_same, last_key, life, put_rows, writes}
 use Rattle.tf_history.specs.Lives.Act.{Aside, Opens, Closes, Writes, Begins, Pages, Finishes, Reopens, Turns}
 use Rattle.tf_history.specs.Lives.Turn.{Starts, Asks, Stops, Prompts, Fails}
@@ -51,7 +51,7 @@ changed written change.Stop t = record t { state = state.Stopped }
 changed written change.Prompt t = record t { prompted = true }
 changed written (change.Fail reason) t = record t { state = state.Failed; reason = Some reason }
 changed written (change.Begin n bound at_ms) t =
-    record t { begun = n; low = t.bound; bound = bound; begun_ms = at_ms; read = written; position = None; pages = 0; state = state.Indexing; prompted = false }
+    record t { begun = n; low = t.bound; before_ms = t.begun_ms; before_read = t.read; bound = bound; begun_ms = at_ms; read = written; position = None; pages = 0; state = state.Indexing; prompted = false }
 changed written (change.Page n rows position) t =
     record t { position = Some position; pages = t.pages + 1; processed = t.processed + 1; indexed = t.indexed + length rows.items }
 changed written (change.Finish n) t = record t { finished = n; state = after_finish t.state }
@@ -68,6 +68,9 @@ changed written change.Reset t =
       bound = None;
       begun_ms = pos 0;
       read = 0;
+      passed = 0;
+      before_ms = pos 0;
+      before_read = 0;
       finished = 0;
       position = None;
       pages = 0;
@@ -116,6 +119,14 @@ docs_of _ = []
 abbrev pub only : List ℕ → Act → List ℕ → Act
 only id a other = if is_same other id then a else Aside
 
+-- whether a step names the transform with an id
+abbrev pub is_about : List ℕ → Step → Bool
+is_about id (step.Index index) = false
+is_about id (step.Write doc) = false
+is_about id (step.Put t) = is_same id t.id
+is_about id (step.Delete other) = is_same id other
+is_about id (step.Change other by) = is_same id other
+
 -- what a step is to each transform
 abbrev pub acts_of : Step → List ℕ → Act
 acts_of (step.Index index) = λ id. Aside
@@ -147,6 +158,7 @@ pub record IsStep (indices : List SourceIndex) (e : Entry) (s : Step) : Type 0 w
   pub writes_is : writes (deed_of values_of indices e.kind) ≡ docs_of s
   pub puts_is : (before : List PutTransform) → transforms_after indices e.kind before ≡ puts_after s before
   pub acts_is : (id : List ℕ) → act id (event_of values_of indices e) ≡ acts_of s id
+  pub names_is : (id : List ℕ) → names id (deed_of values_of indices e.kind) ≡ is_about id s
   pub has_life : (past : List Event) → IsAllowed e.at_ms (deed_of values_of indices e.kind) past → HasLife s past
   pub sound : IsSound s
 

@@ -2,7 +2,7 @@
 ghost use Rattle.std.specs.Prelude.{◌≡◌, ◌++◌, ◌<◌, map, vec_len, vec_capacity};
 ghost use Rattle.std.specs.List.{AllByRecursion};
 ghost use Rattle.tf_core.specs.Chain.{entries_in};
-ghost use Rattle.tf_core.specs.Counts.{AreCounted, AreFew, HasCount, HaveCounts, IsCounted};
+ghost use Rattle.tf_core.specs.Counts.{AreCounted, AreFew, AreMentioned, HasCount, HaveCounts, IsCounted};
 ghost use Rattle.tf_core.specs.Ids.{all_docs};
 ghost use Rattle.tf_core.specs.Kept.{entry_of, past_in};
 ghost use Rattle.tf_core.specs.Rooms.{CanStep};
@@ -31,11 +31,13 @@ pub fn apply_all(
     requires stands { Stands (past_in entries.old.items) indices.old.items (shared docs.old.items) transforms.old.items }
     requires ready { IsReady entries.old indices.old docs.old transforms.old steps.items }
     requires counted { AreCounted counts.old (shared docs.old.items) }
+    requires mentioned { AreMentioned counts.old (past_in entries.old.items) }
     requires counts { HaveCounts counts.old steps.items }
     ensures history { map entry_of entries.new.items ≡ map entry_of entries.old.items ++ entries_in steps.items }
     ensures docs { shared docs.new.items ≡ shared docs.old.items ++ all_docs steps.items }
     ensures stands { Stands (past_in entries.new.items) indices.new.items (shared docs.new.items) transforms.new.items }
     ensures counted { AreCounted counts.new (shared docs.new.items) }
+    ensures mentioned { AreMentioned counts.new (past_in entries.new.items) }
 {
     for prepared in steps {
         apply(entries, indices, docs, transforms, counts, prepared);

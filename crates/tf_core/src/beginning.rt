@@ -1,11 +1,14 @@
 // When a checkpoint begins.
 ghost use Rattle.std.specs.Prelude.{◌≡◌};
+ghost use Rattle.std.specs.List.{list_any};
 ghost use Rattle.tf_core.specs.Allowing as spec;
+ghost use Rattle.tf_core.specs.Passed.{HasMark};
 ghost use Rattle.tf_core.specs.Standing.{shared};
 ghost use Rattle.tf_model.specs.Conditions.{IsInRange, IsSpan};
 
 use crate::allowing::is_started;
 use crate::late::is_among;
+use crate::marks::from;
 use crate::transform::Transform;
 use std::alloc::Global;
 use std::sync::Arc;
@@ -24,6 +27,7 @@ pub fn may_begin(
     requires config { IsInRange transform.now.config }
     requires begun { IsSpan transform.now.begun_ms }
     requires at { IsSpan at_ms }
+    requires marked { HasMark transform.now (shared docs.now) }
     ensures { result ≡ spec.may_begin transform.now (shared docs.now) n bound at_ms }
 {
     is_started(transform.state)
@@ -44,12 +48,14 @@ pub fn bound_at(transform: &Transform, at_ms: i64) -> Option<i64>
     next_bound(&transform.config, transform.bound, at_ms)
 }
 
-/// Whether a checkpoint of a started transform with none running is due at a moment. Goes over documents only where it is time.
+/// Whether a checkpoint of a started transform with none running is due at a moment. Goes over documents only where it is
+/// time, and only over those that the mark has not passed.
 #[tactic(auto, using(crate::proofs::Due::due_first, crate::proofs::Due::due_not, crate::proofs::Due::due_window))]
 pub fn is_due(transform: &Transform, docs: &[Arc<Doc, Global>], at_ms: i64) -> bool
     requires config { IsInRange transform.now.config }
     requires begun { IsSpan transform.now.begun_ms }
     requires at { IsSpan at_ms }
+    requires marked { HasMark transform.now (shared docs.now) }
     ensures { result ≡ spec.is_due transform.now (shared docs.now) at_ms }
 {
     if !is_time(transform, at_ms) {
@@ -84,9 +90,18 @@ fn last_begin(transform: &Transform) -> Option<i64>
     }
 }
 
-// Whether the window of a checkpoint that begins with a bound has a document. Stops at the first.
+// Whether the window of a checkpoint that begins with a bound has a document.
+#[tactic(auto, using(crate::proofs::Passed::window_behind))]
 fn has_window(transform: &Transform, docs: &[Arc<Doc, Global>], bound: Option<i64>) -> bool
+    requires { HasMark transform.now (shared docs.now) }
     ensures { result ≡ spec.has_window transform.now (shared docs.now) bound }
+{
+    any_in_next(transform, from(docs, transform.passed), bound)
+}
+
+// Whether one of these documents is in the window of a checkpoint that begins with a bound. Stops at the first.
+fn any_in_next(transform: &Transform, docs: &[Arc<Doc, Global>], bound: Option<i64>) -> bool
+    ensures { result ≡ list_any (spec.is_in_next transform.now bound) (shared docs.now) }
 {
     for doc in docs {
         if is_in_next(transform, bound, doc) {

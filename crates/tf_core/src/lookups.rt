@@ -11,7 +11,7 @@ ghost use Rattle.tf_history.specs.Transforms.{transform_of};
 ghost use Rattle.tf_core.specs.Held.{life_in};
 ghost use Rattle.tf_core.specs.Ids.{AreIndexed};
 ghost use Rattle.tf_core.specs.Lookups as spec;
-ghost use Rattle.tf_core.specs.Lookups.{docs_in, indices_in, some_has, transforms_in};
+ghost use Rattle.tf_core.specs.Lookups.{docs_in, indices_in, mentions_in, some_has, transforms_in};
 ghost use Rattle.tf_core.specs.Sources.{catalogued};
 ghost use Rattle.tf_core.specs.Standing.{shared};
 ghost use Rattle.tf_core.specs.Summary.{put_of};
@@ -122,6 +122,14 @@ impl Core {
         ensures { result ≡ spec.shard_count index shard self.now.history }
     {
         self.counts.count(index, shard)
+    }
+
+    /// How many entries of the history name a transform, over all its lives: it is not 0 again after a delete. A worker sees
+    /// by it that its transform changed.
+    pub fn count_of(&self, id: &Text) -> u64
+        ensures { result ≡ mentions_in id.now self.now.history }
+    {
+        self.counts.mentions(id)
     }
 }
 

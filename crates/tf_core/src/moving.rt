@@ -8,6 +8,7 @@ ghost use Rattle.tf_core.specs.Kept.{past_in};
 ghost use Rattle.tf_core.specs.Legal.{IsTaken, read};
 ghost use Rattle.tf_core.specs.Moves as spec;
 ghost use Rattle.tf_core.specs.Moves.{IsRunningOf, is_moved_on, moment_after, moved};
+ghost use Rattle.tf_core.specs.Passed.{HasMark};
 ghost use Rattle.tf_core.specs.Standing.{Stands, shared};
 ghost use Rattle.tf_core.specs.Table.{transform_at};
 ghost use Rattle.tf_core.specs.Texts.{HasTexts, IsShort, IsShortKind, IsShortPut};
@@ -48,6 +49,7 @@ pub fn what_next(transform: &Transform, docs: &[Arc<Doc, Global>], at_ms: i64) -
     requires begun { IsSpan transform.now.begun_ms }
     requires few { transform.now.finished < 2 ^ 63 }
     requires at { IsSpan at_ms }
+    requires marked { HasMark transform.now (shared docs.now) }
     ensures { result ≡ spec.what_next transform.now (shared docs.now) at_ms }
 {
     if may_stop(transform) {
@@ -187,7 +189,6 @@ fn running_of(
     transform: &Transform,
     docs: &[Arc<Doc, Global>],
 ) -> Result<Running, OutOfMemory>
-    requires within { transform.now.read ≤ length docs.now }
     ensures { IfOk result (IsRunningOf transform.now (shared docs.now)) }
 {
     Ok(Running {

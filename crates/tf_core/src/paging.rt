@@ -39,7 +39,6 @@ pub fn next_page(
     docs: &[Arc<Doc, Global>],
 ) -> Result<NextPage, OutOfMemory>
     requires config { IsInRange transform.now.config }
-    requires within { transform.now.read ≤ length docs.now }
     requires fit { AllFit transform.now.config (read_by transform.now (shared docs.now)) }
     ensures { IfOk result (IsNextPage transform.now (shared docs.now)) }
 {
@@ -100,7 +99,6 @@ pub fn fails_with(
     value: i128,
 ) -> Result<bool, OutOfMemory>
     requires config { IsInRange transform.now.config }
-    requires within { transform.now.read ≤ length docs.now }
     requires fit { AllFit transform.now.config (read_by transform.now (shared docs.now)) }
     ensures { IfOk result (λ fails. fails ≡ allowing.is_told key.now name.now value (allowing.failure transform.now (shared docs.now))) }
 {

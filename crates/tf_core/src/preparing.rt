@@ -49,7 +49,7 @@ pub fn make_ready(
 {
     let steps = prepare_all(alloc, indices.as_slice(), more)?;
     make_room(alloc, entries, indices, docs, transforms, steps.as_slice())?;
-    make_counts(counts, steps.as_slice())?;
+    make_counts(counts, alloc, steps.as_slice())?;
     enter_all(ids, alloc, docs.as_slice(), steps.as_slice())?;
     Ok(steps)
 }

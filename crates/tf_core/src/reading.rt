@@ -1,15 +1,17 @@
 // The documents that a checkpoint reads.
-ghost use Rattle.std.specs.Prelude.{◌≡◌, ◌<◌, ◌≤◌, ◌++◌, ◌∷◌, [], IfOk, OnOk, filter, take, length, map};
+ghost use Rattle.std.specs.Prelude.{◌≡◌, ◌<◌, ◌++◌, ◌∷◌, [], IfOk, OnOk, filter, map};
 ghost use Rattle.std.specs.Arc.{arc_value};
 ghost use Rattle.std.specs.Option.{option_copied};
 ghost use Rattle.tf_model.specs.Changed.{changed_above};
 ghost use Rattle.tf_model.specs.Conditions.{AllFit, IsInRange};
 ghost use Rattle.tf_reader.specs.Places.{documents};
 ghost use Rattle.tf_core.specs.Allowing.{has_none_left, is_empty, read_by};
+ghost use Rattle.tf_core.specs.Passed.{HasMark, unpassed};
 ghost use Rattle.tf_core.specs.Sources.{is_among as among};
 ghost use Rattle.tf_core.specs.Standing.{shared};
 
 use crate::late::is_among;
+use crate::marks::{first, from};
 use crate::transform::Transform;
 use std::alloc::Global;
 use std::marker::Brand;
@@ -29,10 +31,23 @@ pub fn reader_of(
     transform: &Transform,
     docs: &[Arc<Doc, Global>],
 ) -> Result<Reader, OutOfMemory>
-    requires within { transform.now.read ≤ length docs.now }
     ensures { IfOk result (λ reader. documents reader ≡ read_by transform.now (shared docs.now)) }
 {
-    let docs = docs_in(alloc, transform.sources.as_slice(), docs, transform.read)?;
+    let read = first(docs, transform.read);
+    let docs = docs_in(alloc, transform.sources.as_slice(), read)?;
+    reader_over(alloc, docs)
+}
+
+// A reader of those that the mark has not passed.
+fn window_reader(
+    alloc: Global,
+    transform: &Transform,
+    docs: &[Arc<Doc, Global>],
+) -> Result<Reader, OutOfMemory>
+    ensures { IfOk result (λ reader. documents reader ≡ unpassed transform.now (shared docs.now)) }
+{
+    let docs = from(first(docs, transform.read), transform.passed);
+    let docs = docs_in(alloc, transform.sources.as_slice(), docs)?;
     reader_over(alloc, docs)
 }
 
@@ -48,18 +63,16 @@ fn reader_over(alloc: Global, docs: List<Arc<Doc, Global>>) -> Result<Reader, Ou
     Ok(Reader::new(runs))
 }
 
-// Those of the first documents that are in these indices, shared.
+// Those documents that are in these indices, shared.
 fn docs_in(
     alloc: Global,
     sources: &[u64],
     docs: &[Arc<Doc, Global>],
-    count: u64,
 ) -> Result<List<Arc<Doc, Global>>, OutOfMemory>
-    requires { count ≤ length docs.now }
-    ensures { IfOk result (λ found. map (λ doc. arc_value doc) found ≡ filter (among sources.now) (take count (map (λ doc. arc_value doc) docs.now))) }
+    ensures { IfOk result (λ found. map (λ doc. arc_value doc) found ≡ filter (among sources.now) (map (λ doc. arc_value doc) docs.now)) }
 {
     let mut found = List::new(alloc);
-    for doc in &docs[..count as usize] {
+    for doc in docs {
         push_if(&mut found, sources, doc)?;
     }
     Ok(found)
@@ -78,18 +91,20 @@ fn push_if(
     Ok(())
 }
 
-/// Whether no changed key of a transform's newest checkpoint is above its position.
+/// Whether no changed key of a transform's newest checkpoint is above its position. Looks only at documents that its mark has
+/// not passed.
+#[tactic(auto, using(crate::proofs::Passed::keys_behind))]
 pub fn none_left(
     alloc: Global,
     transform: &Transform,
     docs: &[Arc<Doc, Global>],
 ) -> Result<bool, OutOfMemory>
     requires config { IsInRange transform.now.config }
-    requires within { transform.now.read ≤ length docs.now }
+    requires marked { HasMark transform.now (shared docs.now) }
     requires fit { AllFit transform.now.config (read_by transform.now (shared docs.now)) }
     ensures { IfOk result (λ none. none ≡ has_none_left transform.now (shared docs.now)) }
 {
-    let reader = reader_of(alloc, transform, docs)?;
+    let reader = window_reader(alloc, transform, docs)?;
     none_after::<Brand>(
         alloc,
         &reader,

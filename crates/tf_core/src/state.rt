@@ -8,6 +8,7 @@ use crate::counts::Counts;
 use crate::ids::Ids;
 use crate::index::Index;
 use crate::kept::{Kept, moment};
+use crate::marks::move_marks;
 use crate::preparing::make_ready;
 use crate::ready::Ready;
 use crate::table::find;
@@ -32,7 +33,7 @@ pub struct Core {
     pub(crate) transforms: Vec<Transform>,
     /// The places of documents by their ids. What is prepared is entered and not yet seen.
     pub(crate) ids: Ids,
-    /// How many documents each shard has.
+    /// How many documents each shard has, and how many entries name each transform.
     pub(crate) counts: Counts,
     pub(crate) found: u64,
     pub(crate) ready: Option<Snapshot<Ready>>,
@@ -177,7 +178,8 @@ impl Core {
         }
     }
 
-    /// Makes the history longer by the entries that were prepared. Takes no memory, and looks at no entry or document.
+    /// Makes the history longer by the entries that were prepared. Takes no memory. It looks at no entry, and at a document
+    /// only to move a mark over it.
     pub fn apply(&mut self, ready: Ready)
         requires { self.old.ready ≡ Some ready }
         ensures history { self.new.history ≡ self.old.history ++ ready.entries }
@@ -192,6 +194,7 @@ impl Core {
             &mut self.counts,
             ready.into_steps(),
         );
+        move_marks(&mut self.transforms, self.docs.as_slice());
         self.ready = None;
     }
 }

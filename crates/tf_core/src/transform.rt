@@ -1,11 +1,13 @@
 // What is kept of a transform's life.
 ghost use Rattle.std.specs.Prelude.{◌≡◌, ◌<◌, ◌^◌, nat_lt};
 ghost use Rattle.tf_core.specs.Allowing as allowing;
+ghost use Rattle.tf_core.specs.Finished.{TellsFinished};
 ghost use Rattle.tf_core.specs.Steps.{Changed, started};
 ghost use Rattle.tf_core.specs.declared.ready.Change.TheVariants as change;
 ghost use Rattle.tf_dest.specs.Tables.{HavePlaces, held_keys};
 ghost use Rattle.tf_history.specs.Lives as lives;
 
+use crate::finished::Finished;
 use tf_dest::{Dest, Held};
 use tf_model::{Config, Key, List, State, SumRange, Text};
 
@@ -31,6 +33,13 @@ pub struct Transform {
     pub begun_ms: i64,
     /// How many of all documents the newest checkpoint sees: those written before it.
     pub read: u64,
+    /// How many of all documents its mark has passed: the first so many are in no window of the newest checkpoint or of a later
+    /// one.
+    pub passed: u64,
+    /// The moment of the checkpoint before the newest, 0 where there is none.
+    pub before_ms: i64,
+    /// How many of all documents that one sees.
+    pub before_read: u64,
     /// The last finished checkpoint, 0 for none.
     pub finished: u64,
     /// The last key of the newest checkpoint's last Page.
@@ -57,6 +66,29 @@ impl Transform {
         ensures { result ≡ allowing.is_over self.now }
     {
         self.config.sync.is_none() && 0 < self.finished
+    }
+
+    /// The last finished checkpoint, none where none is finished. It is told while another runs.
+    pub fn last_finished(&self) -> Option<Finished>
+        ensures { TellsFinished self.now result }
+    {
+        if self.finished == 0 {
+            None
+        } else if self.finished < self.begun {
+            Some(Finished {
+                n: self.finished,
+                bound: self.low,
+                at_ms: self.before_ms,
+                read: self.before_read,
+            })
+        } else {
+            Some(Finished {
+                n: self.finished,
+                bound: self.bound,
+                at_ms: self.begun_ms,
+                read: self.read,
+            })
+        }
     }
 
     /// Starts it. Takes no memory, as all that follow.
@@ -103,6 +135,8 @@ impl Transform {
     {
         self.begun = n;
         self.low = self.bound;
+        self.before_ms = self.begun_ms;
+        self.before_read = self.read;
         self.bound = bound;
         self.begun_ms = at_ms;
         self.read = written;
@@ -147,6 +181,9 @@ impl Transform {
         self.bound = None;
         self.begun_ms = 0;
         self.read = 0;
+        self.passed = 0;
+        self.before_ms = 0;
+        self.before_read = 0;
         self.finished = 0;
         self.position = None;
         self.pages = 0;

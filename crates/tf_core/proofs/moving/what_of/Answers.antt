@@ -6,7 +6,7 @@ use Rattle.tf_core.specs.Kept.{entry_of, past_in}
 use Rattle.tf_core.specs.Moves.{moment_after, what_next}
 use Rattle.tf_core.specs.Standing.{shared}
 use Rattle.tf_core.proofs.AllowedKinds.{config_in_range}
-use Rattle.tf_core.proofs.Jobs.{begun_span, finished_few}
+use Rattle.tf_core.proofs.Jobs.{begun_span, finished_few, is_marked}
 use Rattle.tf_core.proofs.NextKind.{begin_deed, no_deed, stop_deed}
 use Rattle.tf_core.proofs.moving.what_of.Goals as goal
 
@@ -15,6 +15,9 @@ what_next-requires-clause-config c = config_in_range (past_in c.args.entries.now
 
 pub what_next-requires-clause-begun : goal.what_next-requires-clause-begun
 what_next-requires-clause-begun c = begun_span (past_in c.args.entries.now) c.args.indices.now (shared c.args.docs.now) c.args.transforms.now c.requires.stands c.args.id.now c.args.found.now c.requires.found
+
+pub what_next-requires-clause-marked : goal.what_next-requires-clause-marked
+what_next-requires-clause-marked c = is_marked (past_in c.args.entries.now) c.args.indices.now (shared c.args.docs.now) c.args.transforms.now c.requires.stands c.args.id.now c.args.found.now c.requires.found
 
 as_many : (entries : List Kept) → length (past_in entries) ≡ length entries
 as_many entries = length-reverse _ ∙ length-map entries entry_of

@@ -12,4 +12,7 @@ returns-in-Some-clause-adds c =
 pub returns-in-Some-clause-kept : goal.returns-in-Some-clause-kept
 returns-in-Some-clause-kept c =
     let n = c.in-Some.count.now in
-    some_in c.args.self.now.by_shard (c.get_mut.follows.lender (n + 1)) c.args.index c.args.shard (n + 1) ((c.get_mut.follows.holds (n + 1)).3 (search rules)).0
+    record {
+      shards = some_in c.args.self.now.by_shard (c.get_mut.follows.lender (n + 1)) c.args.index c.args.shard (n + 1) ((c.get_mut.follows.holds (n + 1)).3 (search rules)).0;
+      transforms = λ id there. there;
+    }

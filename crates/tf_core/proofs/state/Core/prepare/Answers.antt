@@ -28,7 +28,7 @@ invariant_of-self c =
     let taken : AreTaken (past_in old.entries.items) c.args.entries = subst (λ history. AreTakenAfter history c.args.entries) (sym (ap (λ (h : Held). h.history) c.self.view_is)) c.requires.taken in
     let steps = sym c.new-ready.ensures.steps in
     subst (λ b. IsCore new.ids new.counts new.entries new.indices new.docs new.transforms (Some b)) (sym c.of.ensures)
-    (ready_core new.ids old.counts new.counts old.entries new.entries old.indices new.indices old.docs new.docs old.transforms new.transforms made.ensures.entries made.ensures.indices made.ensures.docs made.ensures.transforms c.self.invariant.stands made.ensures.indexed made.ensures.counted c.self.invariant.counted
+    (ready_core new.ids old.counts new.counts old.entries new.entries old.indices new.indices old.docs new.docs old.transforms new.transforms made.ensures.entries made.ensures.indices made.ensures.docs made.ensures.transforms c.self.invariant.stands made.ensures.indexed made.ensures.counted c.self.invariant.counted c.self.invariant.mentioned
     c.args.entries c.new-ready.result taken
     (subst (ArePrepared old.indices.items c.args.entries) steps c.in-Ok.ensures.steps)
     (subst (λ xs. HasRoom xs new.entries new.indices new.docs new.transforms) steps c.in-Ok.ensures.room)
@@ -40,4 +40,4 @@ invariant_of-self-in-Err c =
     let old = c.self.inside in
     let made = c.make_ready-made in
     let new = made.new in
-    idle_core new.ids old.counts new.counts old.entries new.entries old.indices new.indices old.docs new.docs old.transforms new.transforms made.ensures.entries made.ensures.indices made.ensures.docs made.ensures.transforms c.self.invariant.stands made.ensures.indexed made.ensures.counted c.self.invariant.counted
+    idle_core new.ids old.counts new.counts old.entries new.entries old.indices new.indices old.docs new.docs old.transforms new.transforms made.ensures.entries made.ensures.indices made.ensures.docs made.ensures.transforms c.self.invariant.stands made.ensures.indexed made.ensures.counted c.self.invariant.counted c.self.invariant.mentioned
